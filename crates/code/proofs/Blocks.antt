@@ -130,7 +130,7 @@ getD-onto (x ∷ xs) (y ∷ ys) (suc i) h = getD-onto xs ys i (omega arith)
 pub onto-same : (a b : List ℕ) → length a ≡ length b → onto a b ≡ a ⊕ b
 onto-same a b h =
     ext-getD 0 (onto a b) (a ⊕ b) (length-onto a b ∙ sym (length-add (length a) a b refl (sym h)))
-      (λ i l. getD-onto a b i (omega (arith, length-onto a b)) ∙ sym (getD-add a b h i))
+    (λ i l. getD-onto a b i (omega (arith, length-onto a b)) ∙ sym (getD-add a b h i))
 
 -- the ⊕ of two lists of one length, from its bytes
 pub is-add : (s a b : List ℕ) → length s ≡ length a → length a ≡ length b → ((i : ℕ) → i < length s → getD s i 0 ≡ bitXor (getD a i 0) (getD b i 0)) → s ≡ a ⊕ b

@@ -24,14 +24,17 @@ pub half-more : (h : ℕ → ℕ) (old s : List ℕ) (i v : ℕ) → i < length 
 half-more h old s i v l e p = record {
   len = length-set s i v ∙ p .len;
   done = λ k m. elim (cases-eq k i) [
-      inl q ↦ rw q (getD-set-same s i v 0 (omega (arith, p .len)) ∙ e)
-    | inr q ↦ getD-set-other s i k v 0 q ∙ p .done k (omega arith) ];
-  rest = λ k m. getD-set-other s i k v 0 (λ q. omega arith) ∙ p .rest k (omega arith) }
+    | inl q ↦ rw q (getD-set-same s i v 0 (omega (arith, p .len)) ∙ e)
+    | inr q ↦ getD-set-other s i k v 0 q ∙ p .done k (omega arith)
+  ];
+  rest = λ k m. getD-set-other s i k v 0 (λ q. omega arith) ∙ p .rest k (omega arith);
+}
 
 -- a run added as far as both lists go is added onto the first
 pub half-onto : (a b s : List ℕ) (i : ℕ) → i ≡ min (length a) (length b) → Half (λ k. bitXor (getD a k 0) (getD b k 0)) a s i → s ≡ onto a b
 half-onto a b s i e p = is-onto s a b (p .len) (λ k l. elim (cases-lt k i) [
-    inl m ↦ p .done k m
+  | inl m ↦ p .done k m
   | inr m ↦
       let past : getD b k 0 ≡ 0 = getD-past b k 0 (omega arith) in
-      p .rest k m ∙ sym (ap (bitXor (getD a k 0)) past ∙ xor-zero-r (getD a k 0)) ])
+      p .rest k m ∙ sym (ap (bitXor (getD a k 0)) past ∙ xor-zero-r (getD a k 0))
+])

@@ -6,7 +6,6 @@ use lib.ListN.{length, getD, replicate}
 use lib.Bits.{bitXor}
 
 infixl 65 _⊕_
-
 -- how many bytes a block has
 abbrev pub block-size : ℕ
 block-size = 512
