@@ -1,0 +1,3 @@
+pub mod Stripe
+pub mod Ways
+pub mod Theorems
