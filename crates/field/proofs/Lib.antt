@@ -1,0 +1,6 @@
+pub mod Linear
+pub mod Tests
+pub mod Powers
+pub mod Logs
+
+-- pub mod Laws

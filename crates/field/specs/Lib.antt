@@ -1,0 +1,4 @@
+pub mod Field
+pub mod Mixing
+pub mod Terms
+pub mod Theorems
