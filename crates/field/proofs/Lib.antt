@@ -2,5 +2,4 @@ pub mod Linear
 pub mod Tests
 pub mod Powers
 pub mod Logs
-
--- pub mod Laws
+pub mod Laws
