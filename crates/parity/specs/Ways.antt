@@ -45,6 +45,15 @@ by-way C (PWithout i) a b = a ⊕ C .unmix i b
 by-way C (QWithout i) a b = b ⊕ C .mix i a
 by-way C (Pair i j) a b = C .unpair i j (b ⊕ C .mix j a)
 
+-- what is left in the place of the mixed sum b once the way was gone
+abbrev pub left-by : Coding → Way → List ℕ → List ℕ → List ℕ
+left-by C Plain a b = b
+left-by C Mixed a b = b
+left-by C (Unmixed i) a b = C .unmix i b
+left-by C (PWithout i) a b = C .unmix i b
+left-by C (QWithout i) a b = b ⊕ C .mix i a
+left-by C (Pair i j) a b = C .unpair i j (b ⊕ C .mix j a)
+
 -- column t: itself where it is present, else what its way finds
 abbrev pub or-else : Option (List ℕ) → List ℕ → List ℕ
 or-else None b = b

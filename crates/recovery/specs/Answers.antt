@@ -1,0 +1,45 @@
+-- The answers of the functions on a stripe, as numbers.
+use mathlib.Core.Bool.{Bool, true, cond, _&&_, not}
+use Prim.Native.Nat.{ℕ, _+_}
+use lib.Dec.{ltb, leb, eqb}
+use Rattle.std.specs.declared.result.Result.{Result}
+use Rattle.std.specs.declared.result.Result.the-variants.{Ok, Err}
+use Rattle.code.specs.declared.CodeRefusal.{CodeRefusal}
+use Rattle.code.specs.declared.CodeRefusal.the-variants as code
+use Rattle.parity.specs.declared.Way.{Way}
+use Rattle.parity.specs.declared.Way.the-variants.{Plain, Mixed, Unmixed, PWithout, QWithout, Pair}
+use Rattle.recovery.specs.declared.refusal.StripeRefusal.{StripeRefusal}
+use Rattle.recovery.specs.declared.refusal.StripeRefusal.the-variants.{Column, Length, Loss}
+
+-- the number of each refusal
+abbrev pub number : StripeRefusal → ℕ
+number Column = 2
+number Length = 3
+number Loss = 4
+
+-- 0 for a call that is taken, else the refusal's number
+abbrev pub stripe-answer : {U : Type 0} → Result U StripeRefusal → ℕ
+stripe-answer (Ok u) = 0
+stripe-answer (Err e) = number e
+
+-- a code's refusal, as a stripe's
+abbrev pub raised : CodeRefusal → StripeRefusal
+raised code.Column = Column
+raised code.Length = Length
+
+-- a call on column t of a stripe of k data columns under the limit w: the buffers are looked at first
+abbrev pub on-member : ℕ → ℕ → ℕ → Bool → ℕ
+on-member w k t good = cond good (cond (leb k w && ltb t (k + 2)) 0 2) 3
+
+-- the data columns that a way names are below the limit w, and two of them differ
+abbrev pub named : ℕ → Way → Bool
+named w Plain = true
+named w Mixed = true
+named w (Unmixed i) = ltb i w
+named w (PWithout i) = ltb i w
+named w (QWithout i) = ltb i w
+named w (Pair i j) = ltb i w && (ltb j w && not (eqb i j))
+
+-- a call that goes a way: the buffers are looked at first
+abbrev pub on-way : ℕ → Way → Bool → ℕ
+on-way w v good = cond good (cond (named w v) 0 2) 3
