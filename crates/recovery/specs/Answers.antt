@@ -43,3 +43,7 @@ named w (Pair i j) = ltb i w && (ltb j w && not (eqb i j))
 -- a call that goes a way: the buffers are looked at first
 abbrev pub on-way : ℕ → Way → Bool → ℕ
 on-way w v good = cond good (cond (named w v) 0 2) 3
+
+-- a call on all of n data columns under the limit w: the buffers are looked at first
+abbrev pub on-count : ℕ → ℕ → Bool → ℕ
+on-count w n good = cond good (cond (leb n w) 0 2) 3
