@@ -1,11 +1,15 @@
 -- The answers of the functions on a stripe, as numbers.
 use mathlib.Core.Bool.{Bool, true, cond, _&&_, not}
-use Prim.Native.Nat.{ℕ, _+_}
+use mathlib.Core.List.{List}
+use Prim.Native.Nat.{ℕ, _+_, _-_}
 use lib.Dec.{ltb, leb, eqb}
+use Rattle.std.specs.declared.option.Option.{Option}
+use Rattle.std.specs.Options.{isSome}
 use Rattle.std.specs.declared.result.Result.{Result}
 use Rattle.std.specs.declared.result.Result.the-variants.{Ok, Err}
 use Rattle.code.specs.declared.CodeRefusal.{CodeRefusal}
 use Rattle.code.specs.declared.CodeRefusal.the-variants as code
+use Rattle.parity.specs.Stripe.{missing}
 use Rattle.parity.specs.declared.Way.{Way}
 use Rattle.parity.specs.declared.Way.the-variants.{Plain, Mixed, Unmixed, PWithout, QWithout, Pair}
 use Rattle.recovery.specs.declared.refusal.StripeRefusal.{StripeRefusal}
@@ -47,3 +51,15 @@ on-way w v good = cond good (cond (named w v) 0 2) 3
 -- a call on all of n data columns under the limit w: the buffers are looked at first
 abbrev pub on-count : ℕ → ℕ → Bool → ℕ
 on-count w n good = cond good (cond (leb n w) 0 2) 3
+
+-- two lists of n and m columns and marks are those of a stripe that has column t, under the limit w
+abbrev pub shaped : ℕ → ℕ → ℕ → ℕ → Bool
+shaped w n m t = eqb n m && (leb 2 n && (leb (n - 2) w && ltb t n))
+
+-- column t and at least two more of the n columns are missing
+abbrev pub beyond : (ℕ → Option (List ℕ)) → ℕ → ℕ → Bool
+beyond cols n t = not (isSome (cols t)) && ltb 2 (missing cols n)
+
+-- a call for column t of the columns cols, n of them beside m marks: first the buffer, then the shape, then what is missing
+abbrev pub on-recover : ℕ → ℕ → ℕ → (ℕ → Option (List ℕ)) → ℕ → Bool → ℕ
+on-recover w n m cols t good = cond good (cond (shaped w n m t) (cond (beyond cols n t) 4 0) 2) 3

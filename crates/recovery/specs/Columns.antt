@@ -15,8 +15,8 @@ abbrev pub content : List (List ℕ) → ℕ → List ℕ
 content blocks j = getD blocks j []
 
 -- the columns of a list of blocks, of which those that are marked are present
-abbrev pub columns : List (List ℕ) → List Bool → ℕ → Option (List ℕ)
-columns blocks marks t = cond (getD marks t false) (Some (getD blocks t [])) None
+abbrev pub stripe-of : List (List ℕ) → List Bool → ℕ → Option (List ℕ)
+stripe-of blocks marks t = cond (getD marks t false) (Some (getD blocks t [])) None
 
 -- p and q are the parities of the content c
 pub record Parities (C : Coding) (k : ℕ) (c : ℕ → List ℕ) (p q : List ℕ) : Type 0 where

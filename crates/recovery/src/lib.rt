@@ -4,6 +4,7 @@ ghost use mathlib.Core.Path.{_≡_};
 ghost use lib.ListN.{length};
 ghost use Rattle.code.specs.Blocks.{block-size, zeros};
 
+pub mod columns;
 pub mod loss;
 pub mod parities;
 pub mod refusal;
