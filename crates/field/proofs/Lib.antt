@@ -3,3 +3,5 @@ pub mod Tests
 pub mod Powers
 pub mod Logs
 pub mod Laws
+pub mod Tables
+pub mod Terms

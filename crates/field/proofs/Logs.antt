@@ -6,7 +6,7 @@ use Prim.Native.Nat.{ℕ, zero, suc, _+_, _-_, _<_, _≤_}
 use native.Mathlib.Omega.{arith}
 use lib.Dec.{eqb}
 use lib.Bits.{bitXor, xor-assoc, xor-self, xor-zero-r, xor-lt}
-use Rattle.std.proofs.shelf.Tests.{cases-lt, cases-eq, eq-eqb, ne-eqb}
+use Rattle.std.proofs.shelf.Tests.{cases-lt, cases-eq, cond-both, eq-eqb, ne-eqb}
 use Rattle.field.specs.Field.{times, power, exponent, log, inverse}
 use Rattle.field.specs.Terms.{shifts}
 use Rattle.field.specs.Theorems.{Generated}
@@ -29,6 +29,17 @@ pub log-is : (k b : ℕ) → k < 255 → power k ≡ b → log b ≡ k
 unfolding log
 log-is k b h e = exponent-is 255 0 k b (omega arith) (omega arith) h e
 
+-- no search goes past its end
+exponent-lt : (n k b m : ℕ) → k + n ≤ m → 0 < m → exponent n k b < m
+unfolding exponent
+exponent-lt zero k b m h p = p
+exponent-lt (suc n) k b m h p =
+    cond-both (eqb (power k) b) k (exponent n (suc k) b) (λ x. x < m) (λ e. omega arith) (λ e. exponent-lt n (suc k) b m (omega arith) p)
+
+pub log-lt : (b : ℕ) → log b < 255
+unfolding log
+log-lt b = exponent-lt 255 0 b 255 (omega arith) (omega arith)
+
 pub log-power : (k : ℕ) → k < 255 → log (power k) ≡ k
 log-power k h = log-is k (power k) h refl
 
@@ -39,9 +50,6 @@ some-exponent b p h =
     let l : r .0 < 255 = omega (arith, r .1, length-shifts 255 1) in
     (r .0, l, power-shift (r .0) ∙ sym (getD-shifts 255 1 (r .0) l) ∙ r .2 ∙ omega arith)
 
-pub log-lt : (b : ℕ) → 0 < b → b < 256 → log b < 255
-log-lt b p h = let r = some-exponent b p h in omega (arith, r .1, log-is (r .0) b (r .1) (r .2))
-
 pub power-log : (b : ℕ) → 0 < b → b < 256 → power (log b) ≡ b
 power-log b p h = let r = some-exponent b p h in ap power (log-is (r .0) b (r .1) (r .2)) ∙ r .2
 
@@ -49,7 +57,7 @@ pub generated : Generated
 generated = record {
   above = power-pos;
   below = power-lt;
-  each = λ b p h. (log-lt b p h, power-log b p h);
+  each = λ b p h. (log-lt b, power-log b p h);
   once = log-power;
 }
 
@@ -65,13 +73,13 @@ inverse-lt b = power-lt (255 - log b)
 pub divided : (d b : ℕ) → 0 < d → d < 256 → b < 256 → times (inverse d) (times d b) ≡ b
 unfolding inverse
 divided d b p h l =
-    let k = log-lt d p h in
+    let k = log-lt d in
     ap (λ x. times (power (255 - log d)) (times x b)) (sym (power-log d p h)) ∙ powers-undo (255 - log d) (log d) b (omega arith) l
 
 pub undivided : (d b : ℕ) → 0 < d → d < 256 → b < 256 → times d (times (inverse d) b) ≡ b
 unfolding inverse
 undivided d b p h l =
-    let k = log-lt d p h in
+    let k = log-lt d in
     ap (λ x. times x (times (power (255 - log d)) b)) (sym (power-log d p h)) ∙ powers-undo (log d) (255 - log d) b (omega arith) l
 
 -- ---- the sum of two powers with distinct exponents is not 0

@@ -1,12 +1,13 @@
 -- The powers of 2: shifts of 1, of which 255 come back to where they began.
 use mathlib.Core.Path.{_≡_, refl, sym, ap, ap₂, _∙_, subst}
 use mathlib.Core.Logic.{_⊎_, inl, inr}
-use Prim.Native.Nat.{ℕ, zero, suc, _+_, _-_, _%_, _<_, _≤_}
+use Prim.Native.Nat.{ℕ, zero, suc, _+_, _-_, _*_, _/_, _%_, _<_, _≤_}
 use native.Mathlib.Omega.{arith}
 use native.Mathlib.Nat.{zero-add, suc-add}
 use lib.Dec.{lit<}
 use lib.ListN.{length, getD}
 use lib.Bits.{bitXor, xor-self, xor-zero-r}
+use Rattle.std.proofs.shelf.Bits.{div-add-mod'}
 use Rattle.std.proofs.shelf.Tests.{cases-lt, cases-order}
 use Rattle.field.specs.Field.{shifted, product, times, power}
 use Rattle.field.specs.Terms.{shifts}
@@ -97,11 +98,14 @@ shift-255 : (b : ℕ) → b < 256 → shift-by 255 b ≡ b
 shift-255 b h = sym (times-power 255 b h) ∙ ap (λ p. times p b) power-255 ∙ times-one b h
 
 -- exponents count modulo 255
-pub power-reduced : (n : ℕ) → n < 510 → power (n % 255) ≡ power n
-power-reduced n h = elim (cases-lt n 255) [
-  | inl l ↦ ap power (omega arith)
-  | inr l ↦ sym (shift-255 (power (n % 255)) (power-lt (n % 255))) ∙ shift-power 255 (n % 255) ∙ ap power (omega arith)
-]
+rounds : (q r : ℕ) → power (q * 255 + r) ≡ power r
+rounds zero r = ap power (omega arith)
+rounds (suc q) r =
+    let more : 255 + (q * 255 + r) ≡ suc q * 255 + r = omega arith in
+    ap power (sym more) ∙ sym (shift-power 255 (q * 255 + r)) ∙ shift-255 (power (q * 255 + r)) (power-lt (q * 255 + r)) ∙ rounds q r
+
+pub power-reduced : (n : ℕ) → power (n % 255) ≡ power n
+power-reduced n = sym (rounds (n / 255) (n % 255)) ∙ ap power (div-add-mod' n 255)
 
 pub powers-undo : (j k b : ℕ) → j + k ≡ 255 → b < 256 → times (power j) (times (power k) b) ≡ b
 powers-undo j k b e h =

@@ -3,8 +3,9 @@ use mathlib.Core.Path.{_≡_, refl, sym, _∙_}
 use mathlib.Core.Bool.{Bool, true, false, _&&_, _||_}
 use mathlib.Core.List.{List, [], _∷_}
 use mathlib.Core.Logic.{_⊎_, inl, inr}
-use Prim.Native.Nat.{ℕ, zero, suc, _<_}
+use Prim.Native.Nat.{ℕ, zero, suc, _*_, _/_, _%_, _<_}
 use native.Mathlib.Omega.{arith}
+use lib.Bits.{bitXor}
 use lib.Dec.{eqb}
 use lib.ListN.{length, getD}
 use Rattle.std.proofs.shelf.Tests.{cases-eq, and-parts, or-cases, or-parts, eqb-true, eqb-false}
@@ -56,6 +57,18 @@ times-two a h = eqb-true (times 2 a) (shifted a) (and-parts (eqb (times 2 a) (sh
 pub times-one : (a : ℕ) → a < 256 → times 1 a ≡ a
 unfolding doubles
 times-one a h = eqb-true (times 1 a) a (and-parts (eqb (times 2 a) (shifted a)) (eqb (times 1 a) a) (all-at doubles 256 all-double a h) .1)
+
+-- the shift of a byte, of 8 bits
+bytewise : ℕ → Bool
+bytewise a = eqb (bitXor (a * 2 % 256) (a / 128 * 29)) (shifted a)
+
+all-bytewise : all 256 bytewise ≡ true
+unfolding bytewise
+all-bytewise = refl
+
+pub shifted-byte : (a : ℕ) → a < 256 → bitXor (a * 2 % 256) (a / 128 * 29) ≡ shifted a
+unfolding bytewise
+shifted-byte a h = eqb-true (bitXor (a * 2 % 256) (a / 128 * 29)) (shifted a) (all-at bytewise 256 all-bytewise a h)
 
 reached : List ℕ → ℕ → Bool
 reached xs b = holds xs (suc b)
