@@ -42,7 +42,7 @@ unfolding times
 times-shifted a x h = product-shifted 8 a x h
 
 -- ---- n shifts
-pub shift-by : ℕ → ℕ → ℕ
+unfoldable pub shift-by : ℕ → ℕ → ℕ
 shift-by zero a = a
 shift-by (suc n) a = shifted (shift-by n a)
 

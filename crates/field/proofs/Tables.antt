@@ -1,11 +1,14 @@
 -- The rules of a table of powers and of a table of logarithms, each from one test over the whole table.
 use mathlib.Core.Path.{_≡_, refl, sym, ap, ap₂, _∙_}
 use mathlib.Core.Bool.{Bool, true, _&&_}
-use mathlib.Core.List.{List, [], _∷_}
+use mathlib.Core.List.{List, [], _∷_, map}
 use Prim.Native.Nat.{ℕ, zero, suc, _+_, _-_, _<_, _≤_}
 use native.Mathlib.Omega.{arith}
 use lib.Dec.{eqb, ltb}
 use lib.ListN.{length, getD}
+use Rattle.std.specs.Iters.{counting}
+use Rattle.std.proofs.shelf.Counted.{fill-by-all, length-map-counting, getD-map-counting}
+use Rattle.std.proofs.shelf.Lists.{ext-getD}
 use Rattle.std.proofs.shelf.Tests.{and-parts, eqb-true, ltb-true}
 use Rattle.field.specs.Field.{shifted, power, log}
 use Rattle.field.specs.Terms.{shifts}
@@ -25,8 +28,10 @@ shifting-is a (x ∷ xs) t =
     let e : x ≡ a = eqb-true x a (p .0) in
     ap₂ _∷_ e (shifting-is (shifted x) xs (p .1) ∙ ap (λ y. shifts (length xs) (shifted y)) e)
 
-pub power-table : (xs : List ℕ) → shifting 1 xs ≡ true → (k : ℕ) → k < length xs → getD xs k 0 ≡ power k
-power-table xs t k h = ap (λ ys. getD ys k 0) (shifting-is 1 xs t) ∙ getD-shifts (length xs) 1 k h ∙ sym (power-shift k)
+pub power-table : (xs : List ℕ) → shifting 1 xs ≡ true → length xs ≡ 255 → xs ≡ map power (counting 0 255)
+power-table xs t e =
+    fill-by-all power xs 255 0 e
+    (λ k l. ap (λ ys. getD ys k 0) (shifting-is 1 xs t) ∙ getD-shifts (length xs) 1 k (omega arith) ∙ sym (power-shift k))
 
 -- at each entry of the list, the table of powers has b, b + 1, ..
 abbrev pub logging : List ℕ → ℕ → List ℕ → Bool
@@ -46,5 +51,7 @@ logging-at (x ∷ xs) b (suc k) t h =
     let e : suc b + k ≡ b + suc k = omega arith in
     logging-at xs (suc b) k p (omega arith) ∙ ap log e
 
-pub log-table : (xs : List ℕ) → logging (shifts 255 1) 1 xs ≡ true → (b : ℕ) → 0 < b → b ≤ length xs → getD xs (b - 1) 0 ≡ log b
-log-table xs t b p h = let e : 1 + (b - 1) ≡ b = omega arith in logging-at xs 1 (b - 1) t (omega arith) ∙ ap log e
+pub log-table : (xs : List ℕ) → logging (shifts 255 1) 1 xs ≡ true → length xs ≡ 255 → xs ≡ map log (counting 1 255)
+log-table xs t e =
+    ext-getD 0 xs (map log (counting 1 255)) (e ∙ sym (length-map-counting log 1 255))
+    (λ k l. logging-at xs 1 k t l ∙ sym (getD-map-counting log 1 255 k (1 + k) 0 (omega arith) refl))
