@@ -5,3 +5,5 @@ pub mod Shifts
 pub mod Columns
 pub mod Grids
 pub mod Laws
+pub mod Sizes
+pub mod Runs
