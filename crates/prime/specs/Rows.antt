@@ -30,10 +30,10 @@ repeated p w row = rows p w (λ _ t. getD row t 0)
 abbrev pub everywhere : ℕ → ℕ → ℕ → List ℕ → List ℕ
 everywhere p w r b = rows p w (λ _ t. cell w b r t)
 
--- byte t of the ⊕ of all rows of b
-abbrev pub sum-at : ℕ → ℕ → List ℕ → ℕ → ℕ
-sum-at p w b t = xors (λ r. cell w b r t) (p - 1)
+-- byte t of the ⊕ of the first n rows of b
+abbrev pub sum-at : ℕ → List ℕ → ℕ → ℕ → ℕ
+sum-at w b n t = xors (λ r. cell w b r t) n
 
--- the ⊕ of all rows of b, a row of w bytes
-unfoldable pub row-sum : ℕ → ℕ → List ℕ → List ℕ
-row-sum p w b = map (sum-at p w b) (counting 0 w)
+-- the ⊕ of the first n rows of b, a row of w bytes
+unfoldable pub row-sums : ℕ → List ℕ → ℕ → List ℕ
+row-sums w b n = map (sum-at w b n) (counting 0 w)

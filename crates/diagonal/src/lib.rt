@@ -1,0 +1,61 @@
+// The diagonal codes: a block as rows counted modulo a prime, and what RDP and EVENODD share of their arithmetic.
+ghost use mathlib.Core.Path.{_≡_};
+ghost use Prim.Native.Nat.{ℕ, _+_, _-_, _*_, _%_, _<_, _≤_};
+ghost use lib.ListN.{length};
+ghost use Rattle.std.specs.shelf.Lists.{between};
+ghost use Rattle.code.specs.Blocks.{_⊕_, onto};
+ghost use Rattle.prime.specs.Primes.{Prime};
+ghost use Rattle.prime.specs.Rows.{cell, rows, shifted, repeated, everywhere, row-sums};
+ghost use Rattle.prime.specs.Diagonals.{closed, unadjusted, unpaired-block};
+use code::xor::xor_run;
+use code::BLOCK;
+
+// A block as `prime - 1` rows of `width` bytes, all rows counted modulo `prime`; row `prime - 1` is zeros and lies in no block.
+#[derive(Clone, Copy)]
+struct Grid {
+    prime: usize,
+    width: usize,
+    ghost indivisible: { Prime prime },
+    ghost odd: { prime % 2 ≡ 1 },
+    ghost whole: { (prime - 1) * width ≡ 512 },
+}
+
+impl Grid {
+    // 16 rows of 32 bytes.
+    fn of_17() -> Grid
+        ensures rows { λ r. ⌜ (r .prime ≡ 17) × (r .width ≡ 32) ⌝ }
+    {
+        Grid { prime: 17, width: 32 }
+    }
+
+    // Brings a row number below twice the prime back below the prime. No other place wraps a row number.
+    fn fold(&self, x: usize) -> usize
+        requires below { ⌜ x < 2 * now self .prime ⌝ }
+        ensures value { λ r. ⌜ r ≡ x % now (self .entry) .prime ⌝ }
+    {
+        if x < self.prime { x } else { x - self.prime }
+    }
+
+    // Row `r` of `block`.
+    fn row<'a>(&self, r: usize, block: &'a [u8]) -> &'a [u8]
+        requires within { ⌜ r * now self .width + now self .width ≤ length (now block) ⌝ }
+        ensures value { λ x. ⌜ now x ≡ between (r * now (self .entry) .width) (r * now (self .entry) .width + now (self .entry) .width) (now (block .entry)) ⌝ }
+    {
+        let at = r * self.width;
+        &block[at..at + self.width]
+    }
+
+    // Adds to `into` the block whose row r is row r + s of `block`.
+    // Since the rows lie one after another, that is two long runs: from row s on to the start, and below row s - 1 to the end.
+    fn add_shifted(&self, s: usize, block: &[u8], into: &mut [u8])
+        requires shift { ⌜ s < now self .prime ⌝ }
+        requires sized { ⌜ length (now block) ≡ 512 ⌝ }
+        requires room { ⌜ length (now into) ≡ 512 ⌝ }
+        ensures after { λ _. ⌜ now (into .exit) ≡ now (into .entry) ⊕ shifted (now (self .entry) .prime) (now (self .entry) .width) s (now (block .entry)) ⌝ }
+    {
+        let from = s * self.width;
+        xor_run(&block[from..BLOCK], into);
+        let rest = s.saturating_sub(1) * self.width;
+        xor_run(&block[0..rest], &mut into[BLOCK - rest..BLOCK]);
+    }
+}
