@@ -6,9 +6,12 @@ ghost use Rattle.std.specs.shelf.Lists.{between};
 ghost use Rattle.code.specs.Blocks.{_⊕_, onto};
 ghost use Rattle.prime.specs.Primes.{Prime};
 ghost use Rattle.prime.specs.Rows.{cell, rows, shifted, repeated, everywhere, row-sums};
-ghost use Rattle.prime.specs.Diagonals.{closed, unadjusted, unpaired-block};
+ghost use Rattle.prime.specs.Diagonals.{closed, unadjusted-block, unpaired-block};
 use code::xor::xor_run;
 use code::BLOCK;
+
+// Room for the rows of a block and one row more: a row is at most a block.
+const CLOSED: usize = 2 * BLOCK;
 
 // A block as `prime - 1` rows of `width` bytes, all rows counted modulo `prime`; row `prime - 1` is zeros and lies in no block.
 #[derive(Clone, Copy)]
@@ -57,5 +60,64 @@ impl Grid {
         xor_run(&block[from..BLOCK], into);
         let rest = s.saturating_sub(1) * self.width;
         xor_run(&block[0..rest], &mut into[BLOCK - rest..BLOCK]);
+    }
+
+    // A block whose every row is `row`: what is filled so far is copied behind itself, so that the copies are few and long.
+    fn repeat(&self, row: &[u8]) -> [u8; BLOCK]
+        requires sized { ⌜ length (now row) ≡ now self .width ⌝ }
+        ensures value { λ r. ⌜ r ≡ repeated (now (self .entry) .prime) (now (self .entry) .width) (now (row .entry)) ⌝ }
+    {
+        let mut block = [0u8; BLOCK];
+        block[0..self.width].copy_from_slice(row);
+        let mut done = self.width;
+        while done < BLOCK {
+            let more = done.min(BLOCK - done);
+            block.copy_within(0..more, done);
+            done += more;
+        }
+        block
+    }
+
+    // Adds row `r` of `source` to every row of `into`; row `prime - 1` is zeros, and adds nothing.
+    fn add_row_everywhere(&self, r: usize, source: &[u8], into: &mut [u8])
+        requires row { ⌜ r < now self .prime ⌝ }
+        requires sized { ⌜ length (now source) ≡ 512 ⌝ }
+        requires room { ⌜ length (now into) ≡ 512 ⌝ }
+        ensures after { λ _. ⌜ now (into .exit) ≡ now (into .entry) ⊕ everywhere (now (self .entry) .prime) (now (self .entry) .width) r (now (source .entry)) ⌝ }
+    {
+        if r < self.prime - 1 {
+            xor_run(&self.repeat(self.row(r, source)), into);
+        }
+    }
+
+    // Adds every row of `block` to the first row of `into`; further bytes of `into` stay.
+    fn sum_rows(&self, block: &[u8], into: &mut [u8])
+        requires sized { ⌜ length (now block) ≡ 512 ⌝ }
+        ensures after { λ _. ⌜ now (into .exit) ≡ onto (now (into .entry)) (row-sums (now (self .entry) .width) (now (block .entry)) (now (self .entry) .prime - 1)) ⌝ }
+    {
+        for r in 0..self.prime - 1 {
+            xor_run(self.row(r, block), into);
+        }
+    }
+
+    // Adds the sum of all rows of `buffer` to each of its rows.
+    fn unadjust(&self, buffer: &mut [u8])
+        requires sized { ⌜ length (now buffer) ≡ 512 ⌝ }
+        ensures after { λ _. ⌜ now (buffer .exit) ≡ unadjusted-block (now (self .entry) .prime) (now (self .entry) .width) (now (buffer .entry)) ⌝ }
+    {
+        let mut sum = [0u8; BLOCK];
+        self.sum_rows(buffer, &mut sum);
+        xor_run(&self.repeat(self.row(0, &sum)), buffer);
+    }
+
+    // The rows of `block` and, as row `prime - 1`, their sum; what lies behind that row plays no part.
+    fn close(&self, block: &[u8]) -> [u8; CLOSED]
+        requires sized { ⌜ length (now block) ≡ 512 ⌝ }
+        ensures cells { λ x. ⌜ ((r t : ℕ) → r < now (self .entry) .prime → t < now (self .entry) .width → cell (now (self .entry) .width) x r t ≡ closed (now (self .entry) .prime) (λ k. cell (now (self .entry) .width) (now (block .entry)) k t) r) ⌝ }
+    {
+        let mut rows = [0u8; CLOSED];
+        rows[0..BLOCK].copy_from_slice(block);
+        self.sum_rows(block, &mut rows[BLOCK..CLOSED]);
+        rows
     }
 }

@@ -19,6 +19,8 @@ pub record Sizes (p w n : ℕ) : Type 0 where
   pub within : (r : ℕ) → r < p - 1 → r * w + w ≤ n
   -- and so does a run of rows
   pub run : (s : ℕ) → s < p → s * w ≤ n
+  -- row p − 1 lies past the end
+  pub top : (r : ℕ) → p - 1 ≤ r → n ≤ r * w
   pub whole : (p - 1) * w ≡ n
 
 pub sizes : (p w n : ℕ) → Prime p → 0 < n → (p - 1) * w ≡ n → Sizes p w n
@@ -29,6 +31,7 @@ sizes p w n pr some whole = record {
   low = omega (arith, mul-le (p - 1) 1 (p - 1) w (omega arith) (omega (arith, wide)));
   within = λ r h. omega (arith, mul-add-lt r w (w - 1) (p - 1) h (omega (arith, wide)), mul-comm w (p - 1));
   run = λ s h. omega (arith, mul-le s w (p - 1) w (omega arith) (omega arith));
+  top = λ r h. omega (arith, mul-le (p - 1) w r w h (omega arith));
   whole = whole;
 }
   where

@@ -48,6 +48,10 @@ unpaired-block p w u v b = rows p w (λ k t. unpaired p u v (λ r. cell w b r t)
 abbrev pub unadjusted : ℕ → (ℕ → ℕ) → ℕ → ℕ
 unadjusted p b r = bitXor (b r) (xors b (p - 1))
 
+-- the block b with the ⊕ of its rows added to each row
+abbrev pub unadjusted-block : ℕ → ℕ → List ℕ → List ℕ
+unadjusted-block p w b = rows p w (λ r t. unadjusted p (λ k. cell w b k t) r)
+
 -- Row-diagonal parity: row r of mixing j is row (r − j) mod p ⊕ row (r + 1) mod p.
 -- Its diagonals run over the data columns and over P: the second term is what the block adds to Q through P.
 -- A Q without that term, over the data columns alone, is another code, which cannot recover every pair of columns.
