@@ -8,3 +8,4 @@ pub mod Laws
 pub mod Sizes
 pub mod Runs
 pub mod Repeats
+pub mod Walks
