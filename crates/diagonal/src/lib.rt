@@ -2,7 +2,7 @@
 ghost use mathlib.Core.Path.{_≡_};
 ghost use Prim.Native.Nat.{ℕ, _+_, _-_, _*_, _%_, _<_, _≤_};
 ghost use lib.ListN.{length};
-ghost use Rattle.std.specs.shelf.Lists.{between};
+ghost use Rattle.std.specs.shelf.Lists.{between, paste};
 ghost use Rattle.code.specs.Blocks.{_⊕_, onto};
 ghost use Rattle.prime.specs.Primes.{Prime};
 ghost use Rattle.prime.specs.Rows.{cell, rows, shifted, repeated, everywhere, row-sums};
@@ -48,6 +48,16 @@ impl Grid {
         &block[at..at + self.width]
     }
 
+    // Writes `row` over row `k` of `block`.
+    fn put_row(&self, k: usize, row: &[u8], block: &mut [u8])
+        requires sized { ⌜ length (now row) ≡ now self .width ⌝ }
+        requires within { ⌜ k * now self .width + now self .width ≤ length (now block) ⌝ }
+        ensures after { λ _. ⌜ now (block .exit) ≡ paste (now (block .entry)) (k * now (self .entry) .width) (now (row .entry)) (now (self .entry) .width) ⌝ }
+    {
+        let at = k * self.width;
+        block[at..at + self.width].copy_from_slice(row);
+    }
+
     // Adds to `into` the block whose row r is row r + s of `block`.
     // Since the rows lie one after another, that is two long runs: from row s on to the start, and below row s - 1 to the end.
     fn add_shifted(&self, s: usize, block: &[u8], into: &mut [u8])
@@ -68,7 +78,7 @@ impl Grid {
         ensures value { λ r. ⌜ r ≡ repeated (now (self .entry) .prime) (now (self .entry) .width) (now (row .entry)) ⌝ }
     {
         let mut block = [0u8; BLOCK];
-        block[0..self.width].copy_from_slice(row);
+        self.put_row(0, row, &mut block);
         let mut done = self.width;
         while done < BLOCK {
             let more = done.min(BLOCK - done);
@@ -115,9 +125,35 @@ impl Grid {
         requires sized { ⌜ length (now block) ≡ 512 ⌝ }
         ensures cells { λ x. ⌜ ((r t : ℕ) → r < now (self .entry) .prime → t < now (self .entry) .width → cell (now (self .entry) .width) x r t ≡ closed (now (self .entry) .prime) (λ k. cell (now (self .entry) .width) (now (block .entry)) k t) r) ⌝ }
     {
+        let mut sum = [0u8; BLOCK];
+        self.sum_rows(block, &mut sum);
         let mut rows = [0u8; CLOSED];
-        rows[0..BLOCK].copy_from_slice(block);
-        self.sum_rows(block, &mut rows[BLOCK..CLOSED]);
+        xor_run(block, &mut rows);
+        self.put_row(self.prime - 1, self.row(0, &sum), &mut rows);
         rows
+    }
+
+    // Replaces `buffer` by the block whose shifts by `u` and by `v` add up to it.
+    // Two rows of that block, v - u apart, add up to one row of the closed buffer. So a walk in steps of v - u from row `prime - 1`,
+    // which is zeros, meets every row once, as the prime has no divisor, and what it has added up is the row that it stands at.
+    fn solve_pair(&self, u: usize, v: usize, buffer: &mut [u8])
+        requires sized { ⌜ length (now buffer) ≡ 512 ⌝ }
+        requires some { ⌜ 0 < u ⌝ }
+        requires low { ⌜ u ≤ now self .prime ⌝ }
+        requires other { ⌜ v ≤ now self .prime ⌝ }
+        requires apart { ⌜ (u % now self .prime ≡ v % now self .prime → ⊥) ⌝ }
+        ensures after { λ _. ⌜ now (buffer .exit) ≡ unpaired-block (now (self .entry) .prime) (now (self .entry) .width) u v (now (buffer .entry)) ⌝ }
+    {
+        let given = self.close(buffer);
+        let step = self.fold(v + (self.prime - u));
+        let mut sum = [0u8; BLOCK];
+        let mut k = self.prime - 1;
+        let mut r = self.fold(self.prime - 1 + (self.prime - u));
+        for _m in 0..self.prime - 1 {
+            xor_run(self.row(r, &given), &mut sum);
+            k = self.fold(k + step);
+            r = self.fold(r + step);
+            self.put_row(k, self.row(0, &sum), buffer);
+        }
     }
 }

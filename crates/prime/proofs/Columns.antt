@@ -59,7 +59,7 @@ module _ (p : ℕ) (big : 1 < p) where
       small = paired-small;
       one = λ a a′ z z′ h k l. paired-one p big u v d e apart inv a a′ (z ∙ sym z′) h k l;
       top = solved-top p big u v d e apart inv;
-      onto = λ b _ r l. solved-paired p big u v d e apart inv b r (omega arith) ∙ closed-in p big u v d e apart inv b r l;
+      onto = λ b _ r l. solved-paired p big u v d e apart inv b r (omega arith) ∙ closed-in p b r l;
       small-back = λ w b h k. solved-lt p big u v d e apart inv w b (λ r _. h r) k;
     }
 
@@ -79,10 +79,10 @@ module _ (p : ℕ) (big : 1 < p) where
       adjusted-onto b r l = rw (here, end) (xor-again (b r) (xors b (p - 1)))
         where
           here : paired p u v (solved p u d e (unadjusted p b)) r ≡ unadjusted p b r
-          here = solved-paired p big u v d e apart inv (unadjusted p b) r (omega arith) ∙ closed-in p big u v d e apart inv (unadjusted p b) r l
+          here = solved-paired p big u v d e apart inv (unadjusted p b) r (omega arith) ∙ closed-in p (unadjusted p b) r l
 
           end : paired p u v (solved p u d e (unadjusted p b)) (p - 1) ≡ xors b (p - 1)
-          end = solved-paired p big u v d e apart inv (unadjusted p b) (p - 1) (omega arith) ∙ closed-end p big u v d e apart inv (unadjusted p b)
+          end = solved-paired p big u v d e apart inv (unadjusted p b) (p - 1) (omega arith) ∙ closed-end p (unadjusted p b)
               ∙ even-add b (xors b (p - 1)) (p - 1) even
 
       pub even-odd-column : Column p (λ a. adjusted p (paired p u v a)) (λ b. solved p u d e (unadjusted p b))

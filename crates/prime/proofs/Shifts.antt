@@ -64,6 +64,13 @@ module _ (p : ℕ) (big : 1 < p) where
 xor-zero : (a b : ℕ) → bitXor a b ≡ 0 → a ≡ b
 xor-zero a b h = sym (xor-same-l a b a (h ∙ sym (xor-self a)))
 
+-- the rows of a closed column
+pub closed-in : (p : ℕ) (b : ℕ → ℕ) (r : ℕ) → r < p - 1 → closed p b r ≡ b r
+closed-in p b r l = cond-true (ltb r (p - 1)) (b r) (xors b (p - 1)) (lt-ltb r (p - 1) l)
+
+pub closed-end : (p : ℕ) (b : ℕ → ℕ) → closed p b (p - 1) ≡ xors b (p - 1)
+closed-end p b = cond-false (ltb (p - 1) (p - 1)) (b (p - 1)) (xors b (p - 1)) (le-ltb (p - 1) (p - 1) (omega arith))
+
 -- row r of the pair of shifts u, v
 abbrev pub paired : ℕ → ℕ → ℕ → (ℕ → ℕ) → ℕ → ℕ
 paired p u v a r = bitXor (a ((r + u) % p)) (a ((r + v) % p))
@@ -115,14 +122,8 @@ module _ (p : ℕ) (big : 1 < p) (u v : ℕ) where
         along (suc m) = rw (walk-more p big (p - 1) d m) (step (walk p (p - 1) d m) (mod-lt (p - 1 + m * d) (omega arith)) (along m))
 
     -- onto
-    pub closed-in : (b : ℕ → ℕ) (r : ℕ) → r < p - 1 → closed p b r ≡ b r
-    closed-in b r l = cond-true (ltb r (p - 1)) (b r) (xors b (p - 1)) (lt-ltb r (p - 1) l)
-
-    pub closed-end : (b : ℕ → ℕ) → closed p b (p - 1) ≡ xors b (p - 1)
-    closed-end b = cond-false (ltb (p - 1) (p - 1)) (b (p - 1)) (xors b (p - 1)) (le-ltb (p - 1) (p - 1) (omega arith))
-
     closed-total : (b : ℕ → ℕ) → xors (closed p b) p ≡ 0
-    closed-total b = xors-last p big (closed p b) ∙ rw (closed-end b, xors-same (closed p b) b (p - 1) (closed-in b)) (xor-self (xors b (p - 1)))
+    closed-total b = xors-last p big (closed p b) ∙ rw (closed-end p b, xors-same (closed p b) b (p - 1) (closed-in p b)) (xor-self (xors b (p - 1)))
 
     pub steps-top : steps p (p - 1) e (p - 1) ≡ 0
     steps-top = ap (steps p (p - 1) e) (sym start) ∙ steps-walk p big d e inv (p - 1) 0 (omega arith)

@@ -6,11 +6,9 @@ use mathlib.Core.Logic.{_⊎_, inl, inr}
 use native.Mathlib.Omega.{arith}
 use native.Mathlib.Nat.{mod-lt, mod-eq-of-lt, add-mod-right, suc-mul}
 use native.Mathlib.Numerals.{add-one}
-use borrow.Author.Needs.{needs}
 use lib.Bits.{bitXor}
 use lib.ListN.{length, getD}
 use Rattle.std.specs.shelf.Lists.{between, paste}
-use Rattle.std.proofs.shelf.Lists.{places}
 use Rattle.std.proofs.shelf.Edits.{getD-between, length-between, length-paste}
 use Rattle.std.proofs.shelf.Bits.{mul-add-lt, mul-le}
 use Rattle.std.proofs.shelf.Tests.{cases-eq, cases-lt}
@@ -24,29 +22,7 @@ use Rattle.prime.proofs.Shifts.{walk-more, walk-steps, steps-walk, turns}
 use Rattle.prime.proofs.Laws.{inverse-found, gap-some, gap-low}
 use Rattle.prime.proofs.Grids.{is-rows}
 use Rattle.prime.proofs.Sizes.{Sizes}
-
--- ---- one row of a block written over
-pub paste-inside : (d : List ℕ) (at : ℕ) (s : List ℕ) (n i : ℕ) → at + n ≤ length d → n ≤ length s → i < n → getD (paste d at s n) (at + i) 0 ≡ getD s i 0
-paste-inside d at s n i h l m = search (needs, places)
-
-pub paste-below : (d : List ℕ) (at : ℕ) (s : List ℕ) (n i : ℕ) → at + n ≤ length d → n ≤ length s → i < at → getD (paste d at s n) i 0 ≡ getD d i 0
-paste-below d at s n i h l m = search (needs, places)
-
-pub paste-above : (d : List ℕ) (at : ℕ) (s : List ℕ) (n i : ℕ) → at + n ≤ length d → n ≤ length s → at + n ≤ i → getD (paste d at s n) i 0 ≡ getD d i 0
-paste-above d at s n i h l m = search (needs, places)
-
-pub other-row : (w : ℕ) (d : List ℕ) (k : ℕ) (s : List ℕ) (i t : ℕ) → k * w + w ≤ length d → w ≤ length s → t < w → (i ≡ k → ⊥) → cell w (paste d (k * w) s w) i t ≡ cell w d i t
-other-row w d k s i t h l m ne = elim (cases-lt i k) [
-  | inl q ↦ paste-below d (k * w) s w (i * w + t) h l (omega (arith, mul-le (suc i) w k w (omega arith) (omega arith), suc-row i))
-  | inr q ↦ paste-above d (k * w) s w (i * w + t) h l (omega (arith, mul-le (suc k) w i w (omega arith) (omega arith), suc-row k))
-]
-  where
-    suc-row : (i : ℕ) → suc i * w ≡ i * w + w
-    suc-row i = suc-mul i w
-
--- the rows of b and, as row p − 1, their ⊕
-abbrev pub Closes : ℕ → ℕ → List ℕ → List ℕ → Type 0
-Closes p w b given = (r t : ℕ) → r < p → t < w → cell w given r t ≡ closed p (λ k. cell w b k t) r
+use Rattle.prime.proofs.Repeats.{Closes, paste-inside, other-row, length-row}
 
 -- byte t of the ⊕ of the rows of b that the first m steps of the walk take
 abbrev along : ℕ → ℕ → ℕ → ℕ → List ℕ → ℕ → ℕ → ℕ
@@ -125,7 +101,7 @@ module _ (p w n u d : ℕ) (S : Sizes p w n) (pr : Prime p) (pos : 0 < d) (low :
           room′ : length sum′ ≡ n
           room′ = ap length es ∙ length-onto sum row ∙ W .room
           lf : length first ≡ w
-          lf = ap length ef ∙ length-between sum′ (0 * w) (0 * w + w) (omega (arith, room′, S .short)) ∙ omega arith
+          lf = length-row w 0 sum′ first (omega (arith, room′, S .short)) ef
           fits : k′ * w + w ≤ length out
           fits = omega (arith, S .within k′ next-within, W .long)
           added : (t : ℕ) → t < w → getD sum′ t 0 ≡ along p w u d b t (suc m)
