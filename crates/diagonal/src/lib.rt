@@ -123,6 +123,7 @@ impl Grid {
     // The rows of `block` and, as row `prime - 1`, their sum; what lies behind that row plays no part.
     fn close(&self, block: &[u8]) -> [u8; CLOSED]
         requires sized { ⌜ length (now block) ≡ 512 ⌝ }
+        ensures long { λ x. ⌜ length x ≡ 1024 ⌝ }
         ensures cells { λ x. ⌜ ((r t : ℕ) → r < now (self .entry) .prime → t < now (self .entry) .width → cell (now (self .entry) .width) x r t ≡ closed (now (self .entry) .prime) (λ k. cell (now (self .entry) .width) (now (block .entry)) k t) r) ⌝ }
     {
         let mut sum = [0u8; BLOCK];

@@ -7,7 +7,7 @@ use native.Mathlib.Omega.{arith}
 use native.Mathlib.Nat.{mul-mod-left, mod-eq-of-lt, mod-self, suc-mul}
 use native.Mathlib.Numerals.{add-one}
 use lib.Bits.{bitXor, xor-zero-r, xor-assoc}
-use lib.ListN.{length, getD}
+use lib.ListN.{length, getD, replicate}
 use borrow.Author.Needs.{needs}
 use Rattle.std.specs.shelf.Lists.{between, paste}
 use Rattle.std.proofs.shelf.Lists.{getD-past, places}
@@ -24,6 +24,11 @@ use Rattle.prime.proofs.Shifts.{closed-in, closed-end}
 use Rattle.prime.proofs.Grids.{length-rows, cell-rows, is-rows, rows-same}
 use Rattle.prime.proofs.Sizes.{Sizes}
 use Rattle.prime.proofs.Runs.{is-add-rows}
+
+pub byte-of-zeros : (n k : ℕ) → _≡_ {A = ℕ} (getD (replicate n 0) k 0) 0
+byte-of-zeros zero k = refl
+byte-of-zeros (suc n) zero = refl
+byte-of-zeros (suc n) (suc k) = byte-of-zeros n k
 
 -- ---- one row of a block written over
 pub paste-inside : (d : List ℕ) (at : ℕ) (s : List ℕ) (n i : ℕ) → at + n ≤ length d → n ≤ length s → i < n → getD (paste d at s n) (at + i) 0 ≡ getD s i 0
