@@ -10,6 +10,9 @@ ghost use Rattle.prime.specs.Diagonals.{closed, unadjusted-block, unpaired-bloc
 use code::xor::xor_run;
 use code::BLOCK;
 
+pub mod rdp;
+pub mod evenodd;
+
 // Room for the rows of a block and one row more: a row is at most a block.
 const CLOSED: usize = 2 * BLOCK;
 

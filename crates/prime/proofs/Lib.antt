@@ -9,3 +9,4 @@ pub mod Sizes
 pub mod Runs
 pub mod Repeats
 pub mod Walks
+pub mod Mixings
