@@ -1,8 +1,10 @@
 // A lost column from the two sums.
 ghost use mathlib.Core.Path.{_≡_};
-ghost use mathlib.Core.Bool.{cond, _&&_};
+ghost use mathlib.Core.Bool.{true, cond, _&&_};
+ghost use lib.ListN.{length};
 ghost use Rattle.std.specs.Results.{isOk};
-ghost use Rattle.code.specs.Answers.{answer, sized, on-pair};
+ghost use Rattle.code.specs.Answers.{answer, sized};
+ghost use Rattle.code.specs.Blocks.{block-size};
 ghost use Rattle.parity.specs.Ways.{by-way, left-by};
 ghost use Rattle.recovery.specs.Answers.{on-way};
 use code::BLOCK;
@@ -19,12 +21,11 @@ fn solve_pair<C: Code>(
     plain: &[u8],
     mixed: &mut [u8],
 ) -> Result<(), CodeRefusal>
-    ensures answered { λ r. ⌜ answer r ≡ on-pair (C·Code .coding (now (code .entry)) .limit) i j (sized (now (plain .entry)) && sized (now (mixed .entry))) ⌝ }
-    ensures after { λ r. ⌜ now (mixed .exit) ≡ cond (isOk r) (by-way (C·Code .coding (now (code .entry))) (Way.Pair i j) (now (plain .entry)) (now (mixed .entry))) (now (mixed .entry)) ⌝ }
+    requires plain { ⌜ length (now plain) ≡ block-size ⌝ }
+    requires mixed { ⌜ length (now mixed) ≡ block-size ⌝ }
+    ensures answered { λ r. ⌜ answer r ≡ on-way (C·Code .coding (now (code .entry)) .limit) (Way.Pair i j) true ⌝ }
+    ensures after { λ r. ⌜ now (mixed .exit) ≡ cond (isOk r) (left-by (C·Code .coding (now (code .entry))) (Way.Pair i j) (now (plain .entry)) (now (mixed .entry))) (now (mixed .entry)) ⌝ }
 {
-    if plain.len() != BLOCK || mixed.len() != BLOCK {
-        return Err(CodeRefusal::Length);
-    }
     if i >= code.limit() || i == j {
         return Err(CodeRefusal::Column);
     }
@@ -32,7 +33,7 @@ fn solve_pair<C: Code>(
     code.unpair(i, j, mixed)
 }
 
-// Replaces the plain sum by the column that `way` leads to. The mixed sum is used up.
+// Replaces the plain sum by the column that `way` leads to; the mixed sum is overwritten on the way.
 pub fn solve<C: Code>(
     code: &C,
     way: Way,
