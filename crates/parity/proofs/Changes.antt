@@ -1,11 +1,9 @@
 -- One data column changed: the parities, and what fits after.
 use mathlib.Core.Path.{_≡_, refl, sym, ap, ap₂, _∙_}
-use mathlib.Core.List.{List}
 use mathlib.Core.Logic.{⊎-elim}
-use Prim.Native.Nat.{ℕ, _<_, _≤_, _+_}
+use Prim.Native.Nat.{_+_}
 use native.Mathlib.Omega.{arith}
-use Rattle.code.specs.Blocks.{Block, _⊕_}
-use Rattle.code.specs.Codes.{Coding}
+use Rattle.code.specs.Blocks.{_⊕_}
 use Rattle.parity.specs.Stripe.{Content, column, put}
 use Rattle.parity.specs.Theorems.{Deltas, Writes}
 use Rattle.parity.proofs.Sums.{sum-put, put-same, put-other, put-block}

@@ -2,19 +2,19 @@
 use mathlib.Core.Path.{_≡_, refl, sym, ap, ap₂, subst, _∙_}
 use mathlib.Core.List.{List, [], _∷_}
 use mathlib.Core.Bool.{Bool, true, false, cond}
-use mathlib.Core.Logic.{_⊎_, inl, inr, ⊎-elim}
+use mathlib.Core.Logic.{⊎-elim}
 use Prim.Native.Nat.{ℕ, zero, suc, _<_, _≤_, _+_}
 use native.Mathlib.Omega.{arith}
 use lib.ListN.{length, getD, replicate, length-replicate}
-use lib.Dec.{ltb, eqb, lit<}
+use lib.Dec.{eqb, lit<}
 use Rattle.std.specs.declared.option.Option.{Option}
 use Rattle.std.specs.declared.option.Option.the-variants.{Some, None}
 use Rattle.std.specs.Options.{isSome}
-use Rattle.std.proofs.shelf.Tests.{cond-true, cond-false, cond-both, cases-bool, cases-eq, both-ways, eq-eqb, ne-eqb, true≢false, false≢true}
+use Rattle.std.proofs.shelf.Tests.{cond-both, cases-eq, both-ways, eq-eqb, ne-eqb}
 use Rattle.code.specs.Blocks.{Block, block-size, _⊕_, zeros}
 use Rattle.code.specs.Codes.{Coding, Lawful}
 use Rattle.code.proofs.Blocks.{xor, block-add, block-zeros, zeros-zeros, add-zeros, add-self, self-left, bytes-zeros}
-use Rattle.parity.specs.Stripe.{Content, Holds, Fits, column, sum, gaps, missing, put}
+use Rattle.parity.specs.Stripe.{Content, Holds, Fits, column, sum, gaps}
 use Rattle.parity.specs.Theorems.{Free}
 use Rattle.parity.proofs.Sums.{sum-add, sum-cong, sum-block, alone, alone-sum, put-same, put-other, put-block}
 use Rattle.parity.proofs.Columns.{kind, is-data, is-P, is-Q, column-data, column-P, column-Q}

@@ -6,19 +6,17 @@ use mathlib.Core.Logic.{_⊎_, inl, inr, ⊎-elim}
 use Prim.Native.Nat.{ℕ, _<_, _≤_, _+_}
 use native.Mathlib.Omega.{arith}
 use lib.ListN.{length}
-use lib.Dec.{ltb, eqb}
 use Rattle.std.specs.declared.option.Option.{Option}
 use Rattle.std.specs.declared.option.Option.the-variants.{Some, None}
 use Rattle.std.specs.Options.{isSome}
-use Rattle.std.proofs.shelf.Tests.{cond-true, cond-false, both-ways, lt-ltb, le-ltb, eq-eqb, ne-eqb, false≢true}
+use Rattle.std.proofs.shelf.Tests.{both-ways, lt-ltb, le-ltb, eq-eqb, ne-eqb, false≢true}
 use Rattle.code.specs.Blocks.{Block, block-size, _⊕_, zeros}
 use Rattle.code.specs.Codes.{Coding, Lawful}
-use Rattle.code.proofs.Blocks.{xor, block-add, block-zeros}
-use Rattle.parity.specs.Stripe.{Content, sum, column, Holds, Fits, gaps, missing, plain-part, mixed-part, if-present, plain-sum, mixed-sum}
+use Rattle.code.proofs.Blocks.{xor}
+use Rattle.parity.specs.Stripe.{Content, sum, column, Holds, Fits, gaps, plain-part, mixed-part, if-present, plain-sum, mixed-sum}
 use Rattle.parity.specs.Ways.{way, by-way, or-else}
 use Rattle.parity.specs.Theorems.{Recovers, Unique}
-use Rattle.parity.specs.declared.Way.{Way}
-use Rattle.parity.specs.declared.Way.the-variants.{Plain, Mixed, Unmixed, PWithout, QWithout, Pair}
+use Rattle.parity.specs.declared.Way.the-variants.{Pair}
 use Rattle.parity.proofs.Sums.{sum-block, sum-two-more}
 use Rattle.parity.proofs.Columns.{Kind, kind, is-data, is-P, is-Q, column-data, column-P, column-Q, plain-low, plain-Q, mixed-data, mixed-P, mixed-Q, part-is, part-none}
 use Rattle.parity.proofs.Gaps.{gaps-first, gaps-in, In, over, sum-present, missing-parts}

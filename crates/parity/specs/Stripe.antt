@@ -1,7 +1,7 @@
 -- A stripe: data columns 0 .. k - 1, P at k and Q at k + 1. A content is its data blocks by column; a column holds bytes or is missing.
 use mathlib.Core.Path.{_≡_}
 use mathlib.Core.List.{List, [], _∷_}
-use mathlib.Core.Bool.{Bool, cond}
+use mathlib.Core.Bool.{cond}
 use Prim.Native.Nat.{ℕ, zero, suc, _+_, _<_}
 use lib.ListN.{length}
 use lib.Dec.{ltb, leb, eqb}

@@ -1,7 +1,7 @@
 -- The way that a stripe's missing columns lead to.
-use mathlib.Core.Path.{_≡_, refl, sym, ap, ap₂, subst, _∙_}
+use mathlib.Core.Path.{_≡_, refl, sym, ap, ap₂, _∙_}
 use mathlib.Core.List.{List, [], _∷_}
-use mathlib.Core.Bool.{Bool, true, false, cond, not, _&&_}
+use mathlib.Core.Bool.{Bool, true, false, cond}
 use Prim.Native.Nat.{ℕ, _+_, _<_, _≤_}
 use native.Mathlib.Omega.{arith}
 use lib.Dec.{ltb, eqb}
@@ -10,7 +10,7 @@ use Rattle.std.specs.declared.option.Option.{Option}
 use Rattle.std.specs.declared.option.Option.the-variants.{Some, None}
 use Rattle.std.specs.Options.{isSome}
 use Rattle.std.proofs.shelf.Tests.{cond-both, lt-ltb, ne-eqb, and-from, not-from-false}
-use Rattle.code.specs.Blocks.{_⊕_, zeros}
+use Rattle.code.specs.Blocks.{zeros}
 use Rattle.code.specs.Codes.{Coding}
 use Rattle.parity.specs.Stripe.{gaps, plain-sum, mixed-sum}
 use Rattle.parity.specs.Ways.{way, by-way, takes-plain, takes-mixed, or-else, recovered}

@@ -8,7 +8,7 @@ use Rattle.std.specs.declared.result.Result.the-variants.{Ok, Err}
 use Rattle.code.specs.declared.CodeRefusal.{CodeRefusal}
 use Rattle.code.specs.declared.CodeRefusal.the-variants.{Column, Length}
 use mathlib.Core.List.{List}
-use mathlib.Core.Bool.{Bool, true, cond, _&&_}
+use mathlib.Core.Bool.{Bool, true, _&&_}
 use lib.ListN.{length}
 use Rattle.std.proofs.shelf.Tests.{and-from, and-parts, eq-eqb, eqb-true, leb-true, ltb-true, lt-ltb, cond-true}
 use Rattle.std.specs.Results.{isOk}

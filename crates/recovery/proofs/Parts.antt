@@ -1,10 +1,9 @@
 -- What one column leaves of a running sum.
-use mathlib.Core.Path.{_≡_, refl, sym, ap, _∙_}
+use mathlib.Core.Path.{_≡_, sym, ap, _∙_}
 use mathlib.Core.List.{List}
-use mathlib.Core.Bool.{Bool, true, false, cond}
-use Prim.Native.Nat.{ℕ, _<_, _≤_}
+use Prim.Native.Nat.{ℕ, _<_}
 use lib.ListN.{length}
-use Rattle.code.specs.Blocks.{_⊕_, zeros, block-size}
+use Rattle.code.specs.Blocks.{_⊕_, block-size}
 use Rattle.code.specs.Codes.{Coding}
 use Rattle.code.proofs.Blocks.{kept-by-zeros}
 use Rattle.parity.specs.Stripe.{plain-part, mixed-part}

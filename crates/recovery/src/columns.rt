@@ -90,7 +90,7 @@ fn gather<C: Code>(
     code: &C,
     way: Way,
     k: usize,
-    columns: &[[u8; 512]],
+    columns: &[[u8; BLOCK]],
     present: &[bool],
     plain: &mut [u8],
     mixed: &mut [u8],
@@ -111,7 +111,7 @@ fn gather<C: Code>(
 fn recover_missing<C: Code>(
     code: &C,
     k: usize,
-    columns: &[[u8; 512]],
+    columns: &[[u8; BLOCK]],
     present: &[bool],
     want: usize,
     into: &mut [u8],
@@ -123,7 +123,7 @@ fn recover_missing<C: Code>(
     ensures value { λ _. ⌜ now (into .exit) ≡ recovered (C·Code .coding (now (code .entry))) k (stripe-of (now (columns .entry)) (now (present .entry))) want ⌝ }
 {
     let way = lost_data(present, k).way(k, present[k], want);
-    let mut mixed = [0u8; 512];
+    let mut mixed = [0u8; BLOCK];
     clear(into);
     gather(code, way, k, columns, present, into, &mut mixed)?;
     solve(code, way, into, &mut mixed)
@@ -139,7 +139,7 @@ fn is_shaped(limit: usize, columns: usize, marks: usize, want: usize) -> bool
 // Writes column `want` of a stripe into `into`: a copy where it is present, else recovered from the others.
 pub fn recover<C: Code>(
     code: &C,
-    columns: &[[u8; 512]],
+    columns: &[[u8; BLOCK]],
     present: &[bool],
     want: usize,
     into: &mut [u8],

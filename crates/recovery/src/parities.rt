@@ -2,7 +2,7 @@
 ghost use mathlib.Core.Path.{_≡_};
 ghost use mathlib.Core.Bool.{true, cond, _&&_};
 ghost use mathlib.Core.List.{List};
-ghost use Prim.Native.Nat.{ℕ, _+_, _<_, _≤_};
+ghost use Prim.Native.Nat.{ℕ, _+_, _≤_};
 ghost use lib.ListN.{length};
 ghost use Rattle.std.specs.Results.{isOk};
 ghost use Rattle.code.specs.Blocks.{_⊕_, zeros};
@@ -42,7 +42,7 @@ pub fn change<C: Code>(
 // Adds each of the data columns to `p`, and its mixing to `q`.
 fn add_all<C: Code>(
     code: &C,
-    data: &[[u8; 512]],
+    data: &[[u8; BLOCK]],
     p: &mut [u8],
     q: &mut [u8],
 ) -> Result<(), CodeRefusal>
@@ -62,7 +62,7 @@ fn add_all<C: Code>(
 // Writes the P and Q of the data columns `data` into `p` and `q`.
 pub fn encode<C: Code>(
     code: &C,
-    data: &[[u8; 512]],
+    data: &[[u8; BLOCK]],
     p: &mut [u8],
     q: &mut [u8],
 ) -> Result<(), StripeRefusal>
