@@ -2,10 +2,10 @@
 ghost use mathlib.Core.Path.{_≡_};
 ghost use Prim.Native.Nat.{ℕ};
 ghost use Rattle.prime.specs.Diagonals.{evenodd as even-odd};
+use crate::Grid;
 use code::BLOCK;
 use code::Code;
 use code::CodeRefusal;
-use crate::Grid;
 
 // EVENODD over a prime, for as many data columns as the prime.
 #[derive(Clone, Copy)]
@@ -19,7 +19,9 @@ impl EvenOdd {
         ensures prime { λ r. ⌜ r .grid .prime ≡ 17 ⌝ }
         ensures width { λ r. ⌜ r .grid .width ≡ 32 ⌝ }
     {
-        EvenOdd { grid: Grid::of_17() }
+        EvenOdd {
+            grid: Grid::new(17, 32),
+        }
     }
 }
 
@@ -36,11 +38,12 @@ pub impl Code for EvenOdd as EvenOddCode {
         if block.len() != BLOCK || into.len() != BLOCK {
             return Err(CodeRefusal::Length);
         }
-        if j >= self.grid.prime {
+        if j >= self.limit() {
             return Err(CodeRefusal::Column);
         }
-        self.grid.add_shifted(self.grid.fold(self.grid.prime - j), block, into);
-        self.grid.add_row_everywhere(self.grid.prime - 1 - j, block, into);
+        let grid = self.grid;
+        grid.add_shifted(grid.fold(grid.prime - j), block, into);
+        grid.add_row_everywhere(grid.prime - 1 - j, block, into);
         Ok(())
     }
 
@@ -49,12 +52,13 @@ pub impl Code for EvenOdd as EvenOddCode {
         if buffer.len() != BLOCK {
             return Err(CodeRefusal::Length);
         }
-        if j >= self.grid.prime {
+        if j >= self.limit() {
             return Err(CodeRefusal::Column);
         }
+        let grid = self.grid;
         let mut solved = [0u8; BLOCK];
-        self.grid.add_shifted(j, buffer, &mut solved);
-        self.grid.add_row_everywhere(self.grid.fold(self.grid.prime - 1 + j), buffer, &mut solved);
+        grid.add_shifted(j, buffer, &mut solved);
+        grid.add_row_everywhere(grid.fold(grid.prime - 1 + j), buffer, &mut solved);
         buffer.copy_from_slice(&solved);
         Ok(())
     }
@@ -64,11 +68,12 @@ pub impl Code for EvenOdd as EvenOddCode {
         if buffer.len() != BLOCK {
             return Err(CodeRefusal::Length);
         }
-        if i >= self.grid.prime || j >= self.grid.prime || i == j {
+        if i >= self.limit() || j >= self.limit() || i == j {
             return Err(CodeRefusal::Column);
         }
-        self.grid.unadjust(buffer);
-        self.grid.solve_pair(self.grid.prime - i, self.grid.prime - j, buffer);
+        let grid = self.grid;
+        grid.unadjust(buffer);
+        grid.solve_pair(grid.prime - i, grid.prime - j, buffer);
         Ok(())
     }
 }

@@ -7,11 +7,11 @@ ghost use Rattle.code.specs.Blocks.{_⊕_, onto};
 ghost use Rattle.prime.specs.Primes.{Prime};
 ghost use Rattle.prime.specs.Rows.{cell, rows, shifted, repeated, everywhere, row-sums};
 ghost use Rattle.prime.specs.Diagonals.{closed, unadjusted-block, unpaired-block};
-use code::xor::xor_run;
 use code::BLOCK;
+use code::xor::xor_run;
 
-pub mod rdp;
 pub mod evenodd;
+pub mod rdp;
 
 // Room for the rows of a block and one row more: a row is at most a block.
 const CLOSED: usize = 2 * BLOCK;
@@ -27,11 +27,15 @@ struct Grid {
 }
 
 impl Grid {
-    // 16 rows of 32 bytes.
-    fn of_17() -> Grid
-        ensures rows { λ r. ⌜ (r .prime ≡ 17) × (r .width ≡ 32) ⌝ }
+    // `prime - 1` rows of `width` bytes.
+    fn new(prime: usize, width: usize) -> Grid
+        requires indivisible { ⌜ Prime prime ⌝ }
+        requires odd { ⌜ prime % 2 ≡ 1 ⌝ }
+        requires whole { ⌜ (prime - 1) * width ≡ 512 ⌝ }
+        ensures prime { λ r. ⌜ r .prime ≡ prime ⌝ }
+        ensures width { λ r. ⌜ r .width ≡ width ⌝ }
     {
-        Grid { prime: 17, width: 32 }
+        Grid { prime, width }
     }
 
     // Brings a row number below twice the prime back below the prime. No other place wraps a row number.

@@ -2,10 +2,10 @@
 ghost use mathlib.Core.Path.{_≡_};
 ghost use Prim.Native.Nat.{ℕ};
 ghost use Rattle.prime.specs.Diagonals.{rdp as row-diagonal};
+use crate::Grid;
 use code::BLOCK;
 use code::Code;
 use code::CodeRefusal;
-use crate::Grid;
 
 // Row-diagonal parity over a prime, for one data column less than the prime.
 #[derive(Clone, Copy)]
@@ -19,7 +19,9 @@ impl Rdp {
         ensures prime { λ r. ⌜ r .grid .prime ≡ 17 ⌝ }
         ensures width { λ r. ⌜ r .grid .width ≡ 32 ⌝ }
     {
-        Rdp { grid: Grid::of_17() }
+        Rdp {
+            grid: Grid::new(17, 32),
+        }
     }
 }
 
@@ -36,11 +38,12 @@ pub impl Code for Rdp as RdpCode {
         if block.len() != BLOCK || into.len() != BLOCK {
             return Err(CodeRefusal::Length);
         }
-        if j >= self.grid.prime - 1 {
+        if j >= self.limit() {
             return Err(CodeRefusal::Column);
         }
-        self.grid.add_shifted(self.grid.fold(self.grid.prime - j), block, into);
-        self.grid.add_shifted(1, block, into);
+        let grid = self.grid;
+        grid.add_shifted(grid.fold(grid.prime - j), block, into);
+        grid.add_shifted(1, block, into);
         Ok(())
     }
 
@@ -49,10 +52,11 @@ pub impl Code for Rdp as RdpCode {
         if buffer.len() != BLOCK {
             return Err(CodeRefusal::Length);
         }
-        if j >= self.grid.prime - 1 {
+        if j >= self.limit() {
             return Err(CodeRefusal::Column);
         }
-        self.grid.solve_pair(self.grid.prime - j, 1, buffer);
+        let grid = self.grid;
+        grid.solve_pair(grid.prime - j, 1, buffer);
         Ok(())
     }
 
@@ -61,10 +65,11 @@ pub impl Code for Rdp as RdpCode {
         if buffer.len() != BLOCK {
             return Err(CodeRefusal::Length);
         }
-        if i >= self.grid.prime - 1 || j >= self.grid.prime - 1 || i == j {
+        if i >= self.limit() || j >= self.limit() || i == j {
             return Err(CodeRefusal::Column);
         }
-        self.grid.solve_pair(self.grid.prime - i, self.grid.prime - j, buffer);
+        let grid = self.grid;
+        grid.solve_pair(grid.prime - i, grid.prime - j, buffer);
         Ok(())
     }
 }

@@ -62,5 +62,5 @@ solved-same p u d e a b h k =
 pub evenodd-unpaired : (p w n : ℕ) → Sizes p w n → (i j : ℕ) (b x out : List ℕ) → x ≡ unadjusted-block p w b → out ≡ unpaired-block p w (p - i) (p - j) x → out ≡ evenodd p w .unpair i j b
 evenodd-unpaired p w n S i j b x out ex eo =
     eo ∙ rows-same p w (S .wide) (λ k t. unpaired p (p - i) (p - j) (λ r. cell w x r t) k) (λ k t. unpaired p (p - i) (p - j) (unadjusted p (λ r. cell w b r t)) k) (λ k t _ ht.
-      solved-same p (p - i) (gap p (p - i) (p - j)) (inverse-below p (gap p (p - i) (p - j)) p) (λ r. cell w x r t) (unadjusted p (λ r. cell w b r t)) (λ r hr.
-        ap (λ (y : List ℕ). cell w y r t) ex ∙ cell-rows p w (S .wide) (λ r t. unadjusted p (λ k. cell w b k t) r) r t hr ht) k)
+    solved-same p (p - i) (gap p (p - i) (p - j)) (inverse-below p (gap p (p - i) (p - j)) p) (λ r. cell w x r t) (unadjusted p (λ r. cell w b r t)) (λ r hr.
+    ap (λ (y : List ℕ). cell w y r t) ex ∙ cell-rows p w (S .wide) (λ r t. unadjusted p (λ k. cell w b k t) r) r t hr ht) k)

@@ -78,11 +78,11 @@ module _ (p w n : ℕ) (S : Sizes p w n) (row : List ℕ) where
   -- the row written at the start of a block
   pub filled-first : (d s : List ℕ) → length d ≡ n → length row ≡ w → s ≡ paste d (0 * w) row w → Filled w n row s w
   filled-first d s ld lr e = filled-none s (ap length e ∙ length-paste d (0 * w) row w (omega (arith, S .short)) (omega arith) ∙ ld) (λ k m.
-    ap (λ (x : List ℕ). getD x k 0) e ∙ ap (λ i. getD (paste d (0 * w) row w) i 0) (omega arith) ∙ paste-inside d (0 * w) row w k (omega (arith, S .short)) (omega arith) m)
+      ap (λ (x : List ℕ). getD x k 0) e ∙ ap (λ i. getD (paste d (0 * w) row w) i 0) (omega arith) ∙ paste-inside d (0 * w) row w k (omega (arith, S .short)) (omega arith) m)
 
   -- the copies so far, or as many bytes of them as there is room for, are copied behind themselves
   pub filled-more : (s s′ : List ℕ) (done more : ℕ) → done < n → more ≡ min done (n - done) → Filled w n row s done → length s′ ≡ n →
-    ((k : ℕ) → k < done → getD s′ k 0 ≡ getD s k 0) → ((k : ℕ) → done ≤ k → k < done + more → getD s′ k 0 ≡ getD s (k - done) 0) → Filled w n row s′ (done + more)
+      ((k : ℕ) → k < done → getD s′ k 0 ≡ getD s k 0) → ((k : ℕ) → done ≤ k → k < done + more → getD s′ k 0 ≡ getD s (k - done) 0) → Filled w n row s′ (done + more)
   filled-more s s′ done more l e F long old new = record {
     long = long;
     some = omega (arith, F .some);
@@ -102,7 +102,7 @@ module _ (p w n : ℕ) (S : Sizes p w n) (row : List ℕ) where
 
   pub filled-all : (s : List ℕ) (done : ℕ) → n ≤ done → Filled w n row s done → s ≡ repeated p w row
   filled-all s done h F = is-rows p w (S .wide) s (λ _ t. getD row t 0) (F .long ∙ sym (S .whole)) (λ r t l m.
-    F .same (r * w + t) (omega (arith, S .within r l)) ∙ ap (λ i. getD row i 0) (mod-mul-add r w t m))
+      F .same (r * w + t) (omega (arith, S .within r l)) ∙ ap (λ i. getD row i 0) (mod-mul-add r w t m))
 
 -- the row that was cut from row r of a block has the width
 pub length-row : (w r : ℕ) (b row : List ℕ) → r * w + w ≤ length b → row ≡ between (r * w) (r * w + w) b → length row ≡ w
@@ -115,7 +115,7 @@ module _ (p w n : ℕ) (S : Sizes p w n) where
 
   repeated-row : (r : ℕ) (b row : List ℕ) → row ≡ between (r * w) (r * w + w) b → repeated p w row ≡ everywhere p w r b
   repeated-row r b row e = rows-same p w (S .wide) (λ _ t. getD row t 0) (λ _ t. cell w b r t) (λ _ t _ m.
-    ap (λ (x : List ℕ). getD x t 0) e ∙ getD-between b (r * w) (r * w + w) t 0 (omega arith))
+      ap (λ (x : List ℕ). getD x t 0) e ∙ getD-between b (r * w) (r * w + w) t 0 (omega arith))
 
   pub row-everywhere : (r : ℕ) (b row whole into out : List ℕ) → length into ≡ n → row ≡ between (r * w) (r * w + w) b → whole ≡ repeated p w row → out ≡ onto into whole → out ≡ into ⊕ everywhere p w r b
   row-everywhere r b row whole into out li er ew eo =
@@ -125,7 +125,7 @@ module _ (p w n : ℕ) (S : Sizes p w n) where
   -- row p − 1 adds nothing
   pub no-row-everywhere : (r : ℕ) (b into : List ℕ) → length b ≡ n → length into ≡ n → p - 1 ≤ r → into ≡ into ⊕ everywhere p w r b
   no-row-everywhere r b into lb li h = is-add-rows p w n S into into (λ _ t. cell w b r t) li li (λ k t _ _.
-    sym (ap (bitXor (cell w into k t)) (getD-past b (r * w + t) 0 (omega (arith, S .whole, S .top r h))) ∙ xor-zero-r (cell w into k t)))
+      sym (ap (bitXor (cell w into k t)) (getD-past b (r * w + t) 0 (omega (arith, S .whole, S .top r h))) ∙ xor-zero-r (cell w into k t)))
 
 -- ---- the ⊕ of the first rows
 module _ (w : ℕ) (b : List ℕ) where
@@ -158,8 +158,10 @@ module _ (w : ℕ) (b : List ℕ) where
     where
       ls : length s ≡ length a
       ls = ap length es ∙ length-onto a (row-sums w b r)
+
       lr : length row ≡ w
       lr = length-row w r b row h er
+
       one-more : (i : ℕ) → bitXor (getD (row-sums w b r) i 0) (getD row i 0) ≡ getD (row-sums w b (r + 1)) i 0
       one-more i = elim (cases-lt i w) [
         | inl l ↦ rw (add-one r) (
@@ -175,7 +177,7 @@ module _ (w : ℕ) (b : List ℕ) where
 
 -- a first row that starts as zeros and to which all rows were added is their ⊕
 pub sum-row : (p w n : ℕ) → Sizes p w n → (b z sum row : List ℕ) → length z ≡ n → ((k : ℕ) → getD z k 0 ≡ 0) → sum ≡ onto z (row-sums w b (p - 1)) → row ≡ between (0 * w) (0 * w + w) sum →
-  (t : ℕ) → t < w → getD row t 0 ≡ sum-at w b (p - 1) t
+    (t : ℕ) → t < w → getD row t 0 ≡ sum-at w b (p - 1) t
 sum-row p w n S b z sum row lz hz es er t m =
     ap (λ (x : List ℕ). getD x t 0) er ∙ getD-between sum (0 * w) (0 * w + w) t 0 (omega arith) ∙ ap (λ k. getD sum k 0) (omega arith)
     ∙ ap (λ (x : List ℕ). getD x t 0) es ∙ getD-onto z (row-sums w b (p - 1)) t (omega (arith, S .short))
@@ -183,15 +185,15 @@ sum-row p w n S b z sum row lz hz es er t m =
 
 -- that ⊕ added to every row
 pub sum-everywhere : (p w n : ℕ) → Sizes p w n → (b z sum row whole out : List ℕ) → length b ≡ n → length z ≡ n → ((k : ℕ) → getD z k 0 ≡ 0) →
-  sum ≡ onto z (row-sums w b (p - 1)) → row ≡ between (0 * w) (0 * w + w) sum → whole ≡ repeated p w row → out ≡ onto b whole → out ≡ unadjusted-block p w b
+    sum ≡ onto z (row-sums w b (p - 1)) → row ≡ between (0 * w) (0 * w + w) sum → whole ≡ repeated p w row → out ≡ onto b whole → out ≡ unadjusted-block p w b
 sum-everywhere p w n S b z sum row whole out lb lz hz es er ew eo =
     is-rows p w (S .wide) out (λ r t. unadjusted p (λ k. cell w b k t) r) (ap length eo ∙ length-onto b whole ∙ lb ∙ sym (S .whole)) (λ r t l m.
-      ap (λ (x : List ℕ). getD x (r * w + t) 0) eo ∙ getD-onto b whole (r * w + t) (omega (arith, S .within r l))
-      ∙ ap (bitXor (cell w b r t)) (ap (λ (x : List ℕ). cell w x r t) ew ∙ cell-rows p w (S .wide) (λ _ t. getD row t 0) r t l m ∙ sum-row p w n S b z sum row lz hz es er t m))
+    ap (λ (x : List ℕ). getD x (r * w + t) 0) eo ∙ getD-onto b whole (r * w + t) (omega (arith, S .within r l))
+    ∙ ap (bitXor (cell w b r t)) (ap (λ (x : List ℕ). cell w x r t) ew ∙ cell-rows p w (S .wide) (λ _ t. getD row t 0) r t l m ∙ sum-row p w n S b z sum row lz hz es er t m))
 
 -- that ⊕ written behind the block as row p − 1
 pub closes : (p w n m : ℕ) → Sizes p w n → (b z sum row zz first given : List ℕ) → length b ≡ n → length z ≡ n → ((k : ℕ) → getD z k 0 ≡ 0) → length zz ≡ m → ((k : ℕ) → getD zz k 0 ≡ 0) → n + w ≤ m →
-  sum ≡ onto z (row-sums w b (p - 1)) → row ≡ between (0 * w) (0 * w + w) sum → first ≡ onto zz b → given ≡ paste first ((p - 1) * w) row w → Closes p w b given
+    sum ≡ onto z (row-sums w b (p - 1)) → row ≡ between (0 * w) (0 * w + w) sum → first ≡ onto zz b → given ≡ paste first ((p - 1) * w) row w → Closes p w b given
 closes p w n m S b z sum row zz first given lb lz hz lzz hzz fits es er ef eg r t hr ht = elim (cases-lt r (p - 1)) [
   | inl l ↦
       ap (λ (x : List ℕ). cell w x r t) eg ∙ other-row w first (p - 1) row r t within (omega (arith, lr)) ht (λ e. omega arith)
@@ -200,10 +202,11 @@ closes p w n m S b z sum row zz first given lb lz hz lzz hzz fits es er ef eg r 
   | inr l ↦
       let e : r ≡ p - 1 = omega arith in
       rw e (ap (λ (x : List ℕ). cell w x (p - 1) t) eg ∙ paste-inside first ((p - 1) * w) row w t within (omega (arith, lr)) ht
-        ∙ sum-row p w n S b z sum row lz hz es er t ht ∙ sym (closed-end p (λ k. cell w b k t)))
+      ∙ sum-row p w n S b z sum row lz hz es er t ht ∙ sym (closed-end p (λ k. cell w b k t)))
 ]
   where
     lr : length row ≡ w
     lr = length-row w 0 sum row (omega (arith, S .short, ap length es, length-onto z (row-sums w b (p - 1)))) er
+
     within : (p - 1) * w + w ≤ length first
     within = omega (arith, S .whole, ap length ef, length-onto zz b)

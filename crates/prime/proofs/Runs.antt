@@ -39,37 +39,44 @@ getD-to-end xs i n k h = ap (λ (ys : List ℕ). getD ys k 0) (between-to-end xs
 
 -- a block to which rows were added, from its cells
 pub is-add-rows : (p w n : ℕ) → Sizes p w n → (out into : List ℕ) (f : ℕ → ℕ → ℕ) → length out ≡ n → length into ≡ n →
-  ((r t : ℕ) → r < p - 1 → t < w → cell w out r t ≡ bitXor (cell w into r t) (f r t)) → out ≡ into ⊕ rows p w f
+    ((r t : ℕ) → r < p - 1 → t < w → cell w out r t ≡ bitXor (cell w into r t) (f r t)) → out ≡ into ⊕ rows p w f
 is-add-rows p w n S out into f lo li h =
     same-cells p w (S .wide) out (into ⊕ rows p w f) (lo ∙ sym (S .whole)) (length-add ((p - 1) * w) into (rows p w f) (li ∙ sym (S .whole)) lf) (λ r t l m.
-      h r t l m ∙ sym (getD-add into (rows p w f) (li ∙ sym (S .whole) ∙ sym lf) (r * w + t) ∙ ap (bitXor (cell w into r t)) (cell-rows p w (S .wide) f r t l m)))
+    h r t l m ∙ sym (getD-add into (rows p w f) (li ∙ sym (S .whole) ∙ sym lf) (r * w + t) ∙ ap (bitXor (cell w into r t)) (cell-rows p w (S .wide) f r t l m)))
   where
     lf : length (rows p w f) ≡ (p - 1) * w
     lf = length-rows p w (S .wide) f
 
 -- Two runs make a shift by s: all from row s on is added at the start, and the s − 1 rows from the first on are added at the end.
 pub two-runs : (p w n : ℕ) → Sizes p w n → (s : ℕ) → s < p → (b into first tail : List ℕ) (rest : ℕ) → length b ≡ n → length into ≡ n → rest ≡ (s - 1) * w →
-  first ≡ onto into (between (s * w) n b) → tail ≡ onto (between (n - rest) n first) (between 0 rest b) →
-  putMid (n - rest) (n - (n - rest)) first tail ≡ into ⊕ shifted p w s b
+    first ≡ onto into (between (s * w) n b) → tail ≡ onto (between (n - rest) n first) (between 0 rest b) →
+    putMid (n - rest) (n - (n - rest)) first tail ≡ into ⊕ shifted p w s b
 two-runs p w n S s hs b into first tail rest lb li hr ef et = is-add-rows p w n S out into (λ r t. cell w b ((r + s) % p) t) lo li cells
   where
     out : List ℕ
     out = putMid (n - rest) (n - (n - rest)) first tail
+
     fits : rest ≤ n
     fits = rw hr (S .run (s - 1) (omega (arith, S .big)))
+
     lf : length first ≡ n
     lf = ap length ef ∙ length-onto into (between (s * w) n b) ∙ li
+
     lt : length tail ≡ n - (n - rest)
     lt = ap length et ∙ length-onto (between (n - rest) n first) (between 0 rest b) ∙ length-between first (n - rest) n (omega (arith, lf))
+
     lo : length (putMid (n - rest) (n - (n - rest)) first tail) ≡ n
     lo = length-putMid (n - rest) (n - (n - rest)) first tail (omega (arith, lf, fits)) lt ∙ lf
+
     at-first : (i : ℕ) → i < n → getD first i 0 ≡ bitXor (getD into i 0) (getD b (s * w + i) 0)
     at-first i l = ap (λ (xs : List ℕ). getD xs i 0) ef ∙ getD-onto into (between (s * w) n b) i (omega arith) ∙ ap (bitXor (getD into i 0)) (getD-to-end b (s * w) n i lb)
+
     at-tail : (i : ℕ) → i < rest → getD tail i 0 ≡ bitXor (getD first (n - rest + i) 0) (getD b i 0)
     at-tail i l =
         ap (λ (xs : List ℕ). getD xs i 0) et ∙ getD-onto (between (n - rest) n first) (between 0 rest b) i (omega (arith, fits, length-between first (n - rest) n (omega (arith, lf))))
         ∙ ap (λ x. bitXor x (getD (between 0 rest b) i 0)) (getD-to-end first (n - rest) n i lf)
         ∙ ap (bitXor (getD first (n - rest + i) 0)) (getD-between b 0 rest i 0 (omega arith) ∙ ap (λ k. getD b k 0) (omega arith))
+
     cells : (r t : ℕ) → r < p - 1 → t < w → cell w (putMid (n - rest) (n - (n - rest)) first tail) r t ≡ bitXor (cell w into r t) (cell w b ((r + s) % p) t)
     cells r t hr2 ht = elim (cases-lt (r + s) p) [
       | inl l ↦

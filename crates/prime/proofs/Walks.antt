@@ -62,7 +62,7 @@ module _ {p d : ℕ} (D : Stride p d) where
   walk-below m l = elim (cases-eq (walk p (p - 1) d (suc m)) (p - 1)) [
     | inl q ↦
         let z : suc m ≡ 0 = sym (steps-walk p (D .prime .0) d (inverse-below p d p) inv (p - 1) (suc m) (omega arith)) ∙ ap (steps p (p - 1) (inverse-below p d p)) (q ∙ sym start)
-              ∙ steps-walk p (D .prime .0) d (inverse-below p d p) inv (p - 1) 0 (omega arith) in
+        ∙ steps-walk p (D .prime .0) d (inverse-below p d p) inv (p - 1) 0 (omega arith) in
         absurd (omega arith)
     | inr q ↦ omega (arith, mod-lt (p - 1 + suc m * d) {m = p} (omega arith))
   ]
@@ -76,9 +76,9 @@ module _ {p w n u d : ℕ} (S : Sizes p w n) (D : Stride p d) where
     so-far = λ t _. z t;
     long = lo;
     solves = λ k t l m h.
-      let none : steps p (p - 1) (inverse-below p d p) k ≡ 0 = omega arith in
-      let top : k ≡ p - 1 = sym (walk-steps p (D .prime .0) d (inverse-below p d p) (inv D) (p - 1) k (omega arith)) ∙ ap (walk p (p - 1) d) none ∙ start D in
-      absurd (omega arith);
+        let none : steps p (p - 1) (inverse-below p d p) k ≡ 0 = omega arith in
+        let top : k ≡ p - 1 = sym (walk-steps p (D .prime .0) d (inverse-below p d p) (inv D) (p - 1) k (omega arith)) ∙ ap (walk p (p - 1) d) none ∙ start D in
+        absurd (omega arith);
   }
 
   module _ {b out sum : List ℕ} {m k r : ℕ} (W : Walked p w n u d b out sum m k r) where
@@ -91,8 +91,8 @@ module _ {p w n u d : ℕ} (S : Sizes p w n) (D : Stride p d) where
       next-within = rw next-k (walk-below D m hm)
 
       pub walked-more : (given row sum′ : List ℕ) {first out′ : List ℕ} {r′ : ℕ} → Closes p w b given → r * w + w ≤ length given → r′ ≡ (r + d) % p →
-        row ≡ between (r * w) (r * w + w) given → sum′ ≡ onto sum row → first ≡ between (0 * w) (0 * w + w) sum′ → out′ ≡ paste out (k′ * w) first w →
-        Walked p w n u d b out′ sum′ (m + 1) k′ r′
+          row ≡ between (r * w) (r * w + w) given → sum′ ≡ onto sum row → first ≡ between (0 * w) (0 * w + w) sum′ → out′ ≡ paste out (k′ * w) first w →
+          Walked p w n u d b out′ sum′ (m + 1) k′ r′
       unfolding solved
       walked-more given row sum′ {first = first} {out′ = out′} G hg hr er es ef eo = rw (add-one m) (record {
         at-k = next-k;
@@ -108,23 +108,30 @@ module _ {p w n u d : ℕ} (S : Sizes p w n) (D : Stride p d) where
         where
           room′ : length sum′ ≡ n
           room′ = ap length es ∙ length-onto sum row ∙ W .room
+
           lf : length first ≡ w
           lf = length-row w 0 sum′ first (omega (arith, room′, S .short)) ef
+
           fits : k′ * w + w ≤ length out
           fits = omega (arith, S .within k′ next-within, W .long)
+
           added : (t : ℕ) → t < w → getD sum′ t 0 ≡ along p w u d b t (suc m)
           added t ht =
               ap (λ (x : List ℕ). getD x t 0) es ∙ getD-onto sum row t (omega (arith, S .short, W .room))
               ∙ ap (λ x. bitXor x (getD row t 0)) (W .so-far t ht)
               ∙ ap (bitXor (along p w u d b t m)) (ap (λ (x : List ℕ). getD x t 0) er ∙ getD-between given (r * w) (r * w + w) t 0 (omega arith) ∙ G r t (low-r D W) ht ∙ ap (closed p (λ r. cell w b r t)) (W .at-r))
+
           written : (t : ℕ) → t < w → cell w out′ k′ t ≡ getD sum′ t 0
           written t ht =
               ap (λ (x : List ℕ). cell w x k′ t) eo ∙ paste-inside out (k′ * w) first w t fits (omega (arith, lf)) ht
               ∙ ap (λ (x : List ℕ). getD x t 0) ef ∙ getD-between sum′ (0 * w) (0 * w + w) t 0 (omega arith) ∙ ap (λ i. getD sum′ i 0) (omega arith)
+
           here : steps p (p - 1) (inverse-below p d p) k′ ≡ suc m
           here = ap (steps p (p - 1) (inverse-below p d p)) next-k ∙ steps-walk p (D .prime .0) d (inverse-below p d p) (inv D) (p - 1) (suc m) (omega arith)
+
           solved-here : (t : ℕ) → solved p u d (inverse-below p d p) (λ r. cell w b r t) k′ ≡ along p w u d b t (suc m)
           solved-here t = ap (along p w u d b t) here
+
           earlier : (i : ℕ) → (i ≡ k′ → ⊥) → i < p - 1 → steps p (p - 1) (inverse-below p d p) i ≤ suc m → steps p (p - 1) (inverse-below p d p) i ≤ m
           earlier i q l h = elim (cases-eq (steps p (p - 1) (inverse-below p d p) i) (suc m)) [
             | inl z ↦ absurd (q (sym (walk-steps p (D .prime .0) d (inverse-below p d p) (inv D) (p - 1) i (omega arith)) ∙ ap (walk p (p - 1) d) z ∙ sym next-k))
@@ -133,7 +140,7 @@ module _ {p w n u d : ℕ} (S : Sizes p w n) (D : Stride p d) where
 
   walked-all : {b out sum : List ℕ} {m k r : ℕ} → p - 1 ≤ m → Walked p w n u d b out sum m k r → out ≡ rows p w (λ k t. solved p u d (inverse-below p d p) (λ r. cell w b r t) k)
   walked-all {b = b} {out = out} h W = is-rows p w (S .wide) out (λ k t. solved p u d (inverse-below p d p) (λ r. cell w b r t) k) (W .long ∙ sym (S .whole)) (λ i t l ht.
-    W .solves i t l ht (omega (arith, mod-lt ((i + (p - 1) * (p - 1)) * inverse-below p d p) {m = p} (omega arith))))
+      W .solves i t l ht (omega (arith, mod-lt ((i + (p - 1) * (p - 1)) * inverse-below p d p) {m = p} (omega arith))))
 
 -- two ways to step back by u
 pub minus : (p : ℕ) → 1 < p → (x u : ℕ) → u ≤ p → (x + (p - u)) % p ≡ (x + u * (p - 1)) % p

@@ -23,5 +23,5 @@ returns c =
     let w = c .args .self .now .width in
     record {
       after = two-runs (c .args .self .now .prime) w 512 (sizes-of (c .args .self .now)) (c .args .s) (c .pre .shift) (c .args .block .now) (c .args .into .now) (c .xor-run .last .into) (c .xor-run-2 .last .into) (c .saturating-sub .result * w) (c .pre .sized) (c .pre .room)
-        (ap (λ (k : ℕ). k * w) (c .saturating-sub .ensures)) (c .xor-run .ensures .after) (c .xor-run-2 .ensures .after);
+          (ap (λ (k : ℕ). k * w) (c .saturating-sub .ensures)) (c .xor-run .ensures .after) (c .xor-run-2 .ensures .after);
     }

@@ -19,8 +19,8 @@ loop-done-holds c = filled-first (c .args .self .now .prime) (c .args .self .now
 pub loop-done-again : need.loop-done-again
 loop-done-again c =
     filled-more (c .args .self .now .prime) (c .args .self .now .width) 512 (sizes-of (c .args .self .now)) (c .args .row .now) (c .loop-done .block) (c .copy-within .last .self) (c .loop-done .done) (c .min-more .result)
-      (c .loop-done-test .taken) (c .min-more .ensures) (c .loop-done .inv) (c .copy-within .ensures .len ∙ c .loop-done .inv .long)
-      (λ k h. c .copy-within .ensures .places .1 k 0 h) (λ k h l. c .copy-within .ensures .places .0 k 0 h (omega arith) ∙ ap (λ (i : ℕ). getD (c .loop-done .block) i 0) (omega arith))
+    (c .loop-done-test .taken) (c .min-more .ensures) (c .loop-done .inv) (c .copy-within .ensures .len ∙ c .loop-done .inv .long)
+    (λ k h. c .copy-within .ensures .places .1 k 0 h) (λ k h l. c .copy-within .ensures .places .0 k 0 h (omega arith) ∙ ap (λ (i : ℕ). getD (c .loop-done .block) i 0) (omega arith))
 
 pub returns : need.returns
 returns c = record {

@@ -22,7 +22,7 @@ pub loop-m-holds : need.loop-m-holds
 loop-m-holds c =
     let g = c .args .self .now in
     walked-none (sizes-of g) (stride (g .prime) (g .indivisible) (c .args .u) (c .args .v) (c .fold-step .result) (c .pre .low) (c .pre .apart) (c .fold-step .ensures .value)) (c .args .buffer .now) (c .args .buffer .now) (replicate 512 0) (c .fold-r .result) (c .pre .sized) refl (byte-of-zeros 512)
-      (first-row (g .prime) (g .indivisible .0) (c .args .u) (c .fold-step .result) (c .fold-r .result) (c .pre .low) (c .fold-r .ensures .value))
+    (first-row (g .prime) (g .indivisible .0) (c .args .u) (c .fold-step .result) (c .fold-r .result) (c .pre .low) (c .fold-r .ensures .value))
 
 pub row-requires : need.row-requires
 row-requires c κs =
@@ -59,8 +59,8 @@ loop-m-again c =
     let g = c .args .self .now in
     let d = stride (g .prime) (g .indivisible) (c .args .u) (c .args .v) (c .fold-step .result) (c .pre .low) (c .pre .apart) (c .fold-step .ensures .value) in
     walked-more (sizes-of g) d (c .loop-m .inv) (c .loop-m-test .taken) (c .fold-k .ensures .value) (c .close-given .result) (c .row .result .now) (c .xor-run .last .into)
-      (c .close-given .ensures .cells) (omega (arith, sizes-of g .run (c .loop-m .r) (low-r d (c .loop-m .inv)), sizes-of g .short, c .close-given .ensures .long)) (c .fold-r-in-loop-m .ensures .value)
-      (c .row .ensures .value) (c .xor-run .ensures .after) (c .row-in-loop-m .ensures .value) (c .put-row .ensures .after)
+    (c .close-given .ensures .cells) (omega (arith, sizes-of g .run (c .loop-m .r) (low-r d (c .loop-m .inv)), sizes-of g .short, c .close-given .ensures .long)) (c .fold-r-in-loop-m .ensures .value)
+    (c .row .ensures .value) (c .xor-run .ensures .after) (c .row-in-loop-m .ensures .value) (c .put-row .ensures .after)
 
 pub returns : need.returns
 returns c =

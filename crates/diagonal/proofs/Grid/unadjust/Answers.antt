@@ -21,5 +21,5 @@ repeat-requires c κs = record {
 pub returns : need.returns
 returns c = record {
   after = sum-everywhere (c .args .self .now .prime) (c .args .self .now .width) 512 (sizes-of (c .args .self .now)) (c .args .buffer .now) (replicate 512 0) (c .sum-rows .last .into) (c .row .result .now) (c .repeat .result) (c .xor-run .last .into)
-    (c .pre .sized) refl (byte-of-zeros 512) (c .sum-rows .ensures .after) (c .row .ensures .value) (c .repeat .ensures .value) (c .xor-run .ensures .after);
+      (c .pre .sized) refl (byte-of-zeros 512) (c .sum-rows .ensures .after) (c .row .ensures .value) (c .repeat .ensures .value) (c .xor-run .ensures .after);
 }

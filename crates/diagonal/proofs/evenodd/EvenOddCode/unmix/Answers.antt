@@ -12,8 +12,8 @@ use Rattle.prime.proofs.Mixings.{evenodd-unmixed}
 use Rattle.diagonal.proofs.Facts.{sizes-of}
 use Rattle.diagonal.proofs.evenodd.EvenOddCode.unmix.Needs as need
 
-pub add-self : need.add-self
-add-self c = omega (arith, sizes-of (c .args .self .now .grid) .low)
+pub add-grid : need.add-grid
+add-grid c = omega (arith, sizes-of (c .args .self .now .grid) .low)
 
 pub returns : need.returns
 returns c =
@@ -21,6 +21,6 @@ returns c =
     record {
       answered = search needs;
       after = c .copy-from-slice .ensures .after
-        ∙ evenodd-unmixed (g .prime) (g .width) 512 (sizes-of g) (c .args .j) (c .args .buffer .now) (replicate 512 0) (c .add-shifted .last .into) (c .add-row-everywhere .last .into) refl (byte-of-zeros 512) (c .add-shifted .ensures .after)
+          ∙ evenodd-unmixed (g .prime) (g .width) 512 (sizes-of g) (c .args .j) (c .args .buffer .now) (replicate 512 0) (c .add-shifted .last .into) (c .add-row-everywhere .last .into) refl (byte-of-zeros 512) (c .add-shifted .ensures .after)
           (c .add-row-everywhere .ensures .after ∙ ap (λ (r : ℕ). c .add-shifted .last .into ⊕ everywhere (g .prime) (g .width) r (c .args .buffer .now)) (c .fold .ensures .value));
     }
