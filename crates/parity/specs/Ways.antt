@@ -54,11 +54,12 @@ left-by C (PWithout i) a b = C .unmix i b
 left-by C (QWithout i) a b = b ⊕ C .mix i a
 left-by C (Pair i j) a b = C .unpair i j (b ⊕ C .mix j a)
 
--- column t: itself where it is present, else what its way finds
+-- what a column holds, or b where it is missing
 abbrev pub or-else : Option (List ℕ) → List ℕ → List ℕ
 or-else None b = b
 or-else (Some a) b = a
 
+-- column t: itself where it is present, else what its way finds from the sums over all present columns
 abbrev pub recovered : Coding → ℕ → (ℕ → Option (List ℕ)) → ℕ → List ℕ
 recovered C k cols t =
     or-else (cols t) (by-way C (way k (gaps cols k) (isSome (cols k)) t) (plain-sum k cols (k + 2)) (mixed-sum C k cols (k + 2)))

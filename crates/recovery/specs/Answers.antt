@@ -32,8 +32,8 @@ raised code.Column = Column
 raised code.Length = Length
 
 -- a call on column t of a stripe of k data columns under the limit w: the buffers are looked at first
-abbrev pub on-member : ℕ → ℕ → ℕ → Bool → ℕ
-on-member w k t good = cond good (cond (leb k w && ltb t (k + 2)) 0 2) 3
+abbrev pub on-stripe : ℕ → ℕ → ℕ → Bool → ℕ
+on-stripe w k t good = cond good (cond (leb k w && ltb t (k + 2)) 0 2) 3
 
 -- the data columns that a way names are below the limit w, and two of them differ
 abbrev pub named : ℕ → Way → Bool
@@ -57,9 +57,9 @@ abbrev pub shaped : ℕ → ℕ → ℕ → ℕ → Bool
 shaped w n m t = eqb n m && (leb 2 n && (leb (n - 2) w && ltb t n))
 
 -- column t and at least two more of the n columns are missing
-abbrev pub beyond : (ℕ → Option (List ℕ)) → ℕ → ℕ → Bool
-beyond cols n t = not (isSome (cols t)) && ltb 2 (missing cols n)
+abbrev pub unrecoverable : (ℕ → Option (List ℕ)) → ℕ → ℕ → Bool
+unrecoverable cols n t = not (isSome (cols t)) && ltb 2 (missing cols n)
 
 -- a call for column t of the columns cols, n of them beside m marks: first the buffer, then the shape, then what is missing
 abbrev pub on-recover : ℕ → ℕ → ℕ → (ℕ → Option (List ℕ)) → ℕ → Bool → ℕ
-on-recover w n m cols t good = cond good (cond (shaped w n m t) (cond (beyond cols n t) 4 0) 2) 3
+on-recover w n m cols t good = cond good (cond (shaped w n m t) (cond (unrecoverable cols n t) 4 0) 2) 3

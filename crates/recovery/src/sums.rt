@@ -8,7 +8,7 @@ ghost use Rattle.code.specs.Blocks.{_⊕_, block-size};
 ghost use Rattle.code.specs.Answers.{answer, sized};
 ghost use Rattle.parity.specs.Stripe.{plain-part, mixed-part};
 ghost use Rattle.parity.specs.Ways.{takes-plain, takes-mixed};
-ghost use Rattle.recovery.specs.Answers.{on-member};
+ghost use Rattle.recovery.specs.Answers.{on-stripe};
 use code::BLOCK;
 use code::Code;
 use code::CodeRefusal;
@@ -95,7 +95,7 @@ pub fn add_column<C: Code>(
     plain: &mut [u8],
     mixed: &mut [u8],
 ) -> Result<(), CodeRefusal>
-    ensures answered { λ r. ⌜ answer r ≡ on-member (C·Code .coding (now (code .entry)) .limit) k t (sized (now (block .entry)) && (sized (now (plain .entry)) && sized (now (mixed .entry)))) ⌝ }
+    ensures answered { λ r. ⌜ answer r ≡ on-stripe (C·Code .coding (now (code .entry)) .limit) k t (sized (now (block .entry)) && (sized (now (plain .entry)) && sized (now (mixed .entry)))) ⌝ }
     ensures plain { λ r. ⌜ now (plain .exit) ≡ cond (isOk r && takes-plain way) (now (plain .entry) ⊕ plain-part k t (now (block .entry))) (now (plain .entry)) ⌝ }
     ensures mixed { λ r. ⌜ now (mixed .exit) ≡ cond (isOk r && takes-mixed way) (now (mixed .entry) ⊕ mixed-part (C·Code .coding (now (code .entry))) k t (now (block .entry))) (now (mixed .entry)) ⌝ }
 {

@@ -12,7 +12,7 @@ use Rattle.parity.specs.Ways.{way, by-way}
 use Rattle.recovery.specs.Answers.{named}
 use Rattle.recovery.specs.Columns.{stripe-of}
 use Rattle.recovery.proofs.Outcomes.{way-taken, taken-ok, good-two}
-use Rattle.recovery.proofs.Ahead.{way-from, way-named, found-is}
+use Rattle.recovery.proofs.Found.{way-from, way-named, found-is}
 use Rattle.recovery.proofs.Marks.{some-mark}
 use Rattle.recovery.proofs.columns.recover_missing.Needs as need
 
