@@ -5,7 +5,7 @@ ghost use lib.ListN.{length};
 ghost use Rattle.std.specs.shelf.Lists.{between, paste};
 ghost use Rattle.code.specs.Blocks.{_⊕_, onto};
 ghost use Rattle.prime.specs.Primes.{Prime};
-ghost use Rattle.prime.specs.Rows.{cell, rows, shifted, repeated, everywhere, row-sums};
+ghost use Rattle.prime.specs.Rows.{cell, shifted, repeated, everywhere, row-sums};
 ghost use Rattle.prime.specs.Diagonals.{closed, unadjusted-block, unpaired-block};
 use code::BLOCK;
 use code::xor::xor_run;

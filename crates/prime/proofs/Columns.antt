@@ -1,15 +1,14 @@
 -- The three maps of one column of a block (a function of the row, zero at row p − 1) and their inverses.
-use Prim.Native.Nat.{ℕ, zero, suc, _+_, _-_, _*_, _/_, _%_, _<_, _≤_, _^_}
+use Prim.Native.Nat.{ℕ, zero, suc, _+_, _-_, _*_, _%_, _<_, _^_}
 use mathlib.Core.Path.{_≡_, refl, sym, ap, _∙_}
-use mathlib.Core.Logic.{_⊎_, inl, inr}
+use mathlib.Core.Logic.{inl, inr}
 use native.Mathlib.Omega.{arith}
-use native.Mathlib.Nat.{add-assoc, mod-add-mod, add-mod-right, mod-eq-of-lt, mod-lt}
-use lib.Bits.{bitXor, xor-comm, xor-assoc, xor-self, xor-zero-r, xor-lt}
+use native.Mathlib.Nat.{mod-add-mod, add-mod-right, mod-eq-of-lt, mod-lt}
+use lib.Bits.{bitXor, xor-assoc, xor-self, xor-zero-r, xor-lt}
 use Rattle.std.proofs.shelf.Tests.{cases-eq}
 use Rattle.prime.specs.Rows.{xors}
-use Rattle.prime.specs.Diagonals.{closed, solved, unadjusted}
-use Rattle.prime.proofs.Xors.{xor-cancel, xor-four, xor-same-l, xors-same, xors-xor, xors-lt}
-use Rattle.prime.proofs.Mods.{add-cong}
+use Rattle.prime.specs.Diagonals.{solved, unadjusted}
+use Rattle.prime.proofs.Xors.{xor-four, xor-same-l, xors-same, xors-xor, xors-lt}
 use Rattle.prime.proofs.Shifts.{paired, paired-last, paired-one, closed-in, closed-end, solved-top, solved-paired, solved-lt}
 
 -- F is linear and looks at rows below p alone; G undoes it on the rows below p − 1

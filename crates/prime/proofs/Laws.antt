@@ -1,18 +1,17 @@
 -- The laws of RDP and EVENODD over every odd prime.
 use Prim.Native.Nat.{ℕ, zero, suc, _+_, _-_, _*_, _%_, _<_}
-use mathlib.Core.Path.{_≡_, refl, sym, ap, _∙_, subst, fun-ext}
+use mathlib.Core.Path.{_≡_, sym, ap, _∙_, subst, fun-ext}
 use mathlib.Core.List.{List}
-use mathlib.Core.Logic.{_⊎_, inl, inr}
+use mathlib.Core.Logic.{inl, inr}
 use native.Mathlib.Omega.{arith}
 use native.Mathlib.Nat.{mul-comm, add-mod-mod, add-mod-right, mod-self, mod-eq-of-lt, mod-lt, mod-mod}
 use lib.Bits.{bitXor, xor-self, xor-zero-r}
 use lib.Dec.{eqb}
 use Rattle.std.proofs.shelf.Tests.{cases-eq, cases-bool, eqb-true, eqb-false, cond-true, cond-false}
-use Rattle.code.specs.Blocks.{_⊕_}
 use Rattle.code.specs.Codes.{Inverse, Lawful, pair}
 use Rattle.prime.specs.Primes.{Prime}
 use Rattle.prime.specs.Rows.{cell, rows}
-use Rattle.prime.specs.Diagonals.{rdp, evenodd, inverse-below, gap, unpaired, unpaired-block, unadjusted, Diagonal-codes-are-lawful}
+use Rattle.prime.specs.Diagonals.{rdp, evenodd, inverse-below, gap, unpaired, unadjusted, Diagonal-codes-are-lawful}
 use Rattle.prime.proofs.Xors.{xor-four}
 use Rattle.prime.proofs.Mods.{add-cong, mul-cong, inverse}
 use Rattle.prime.proofs.Shifts.{paired, turns}

@@ -1,9 +1,8 @@
 -- The mixings of both codes as sums of shifted and repeated rows, which is how they are computed.
-use Prim.Native.Nat.{ℕ, _+_, _-_, _*_, _%_, _<_, _≤_}
-use mathlib.Core.Path.{_≡_, refl, sym, ap, _∙_}
+use Prim.Native.Nat.{ℕ, _+_, _-_, _*_, _%_, _<_}
+use mathlib.Core.Path.{_≡_, sym, ap, _∙_}
 use mathlib.Core.List.{List}
-use mathlib.Core.Logic.{_⊎_, inl, inr}
-use mathlib.Core.Bool.{cond}
+use mathlib.Core.Logic.{inl, inr}
 use native.Mathlib.Nat.{add-mod-mod}
 use lib.Bits.{bitXor, xor-zero-l}
 use lib.Dec.{ltb}

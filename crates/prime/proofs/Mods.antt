@@ -1,9 +1,9 @@
 -- Remainders by p.
 use Prim.Native.Nat.{ℕ, zero, suc, _+_, _-_, _*_, _/_, _%_, _<_, _≤_}
-use mathlib.Core.Path.{_≡_, refl, sym, ap, _∙_}
-use mathlib.Core.Logic.{_⊎_, inl, inr}
+use mathlib.Core.Path.{_≡_, sym, ap, _∙_}
+use mathlib.Core.Logic.{inl, inr}
 use native.Mathlib.Omega.{arith}
-use native.Mathlib.Nat.{add-comm, add-assoc, mul-comm, mul-assoc, mul-suc, mul-zero, add-mul, mul-add, mod-add-mod, add-mod-mod, add-mul-mod-self-right, mul-mod-left, mul-mod-right, mod-eq-of-lt, mod-lt, div-add-mod', mod-mod, mul-one, mod-add-div}
+use native.Mathlib.Nat.{add-comm, add-assoc, mul-assoc, mul-suc, mul-zero, add-mul, mod-add-mod, add-mod-mod, add-mul-mod-self-right, mul-mod-left, mul-mod-right, mod-eq-of-lt, mod-lt, mul-one, mod-add-div}
 use Rattle.std.proofs.shelf.Tests.{cases-eq}
 use Rattle.prime.specs.Primes.{Prime}
 

@@ -1,10 +1,10 @@
 -- Primes by trial division.
-use Prim.Native.Nat.{ℕ, zero, suc, _+_, _-_, _*_, _%_, _<_, _≤_}
+use Prim.Native.Nat.{ℕ, zero, suc, _%_, _<_}
 use mathlib.Core.Path.{_≡_, refl, sym, ap, _∙_}
-use mathlib.Core.Logic.{_⊎_, inl, inr}
-use mathlib.Core.Bool.{Bool, true, false, _&&_, _||_, not}
+use mathlib.Core.Logic.{inl, inr}
+use mathlib.Core.Bool.{Bool, true, _&&_, _||_, not}
 use native.Mathlib.Omega.{arith}
-use lib.Dec.{T, leb, eqb, lit<}
+use lib.Dec.{leb, eqb, lit<}
 use Rattle.std.proofs.shelf.Tests.{and-parts, or-cases, leb-true, not-true, eq-eqb, both-ways, cases-eq}
 use Rattle.prime.specs.Primes.{Prime}
 

@@ -1,14 +1,14 @@
 -- What long runs of ⊕ leave: a shifted block, a repeated row, the ⊕ of all rows.
-use Prim.Native.Nat.{ℕ, zero, suc, _+_, _-_, _*_, _/_, _%_, _<_, _≤_, min}
-use mathlib.Core.Path.{_≡_, refl, sym, ap, _∙_}
-use mathlib.Core.List.{List, map}
-use mathlib.Core.Logic.{_⊎_, inl, inr}
+use Prim.Native.Nat.{ℕ, _+_, _-_, _*_, _%_, _<_, _≤_}
+use mathlib.Core.Path.{_≡_, sym, ap, _∙_}
+use mathlib.Core.List.{List}
+use mathlib.Core.Logic.{inl, inr}
 use native.Mathlib.Omega.{arith}
-use native.Mathlib.Nat.{add-mul, mul-comm, mod-eq-of-lt, mod-eq-sub-mod, add-mod-mod}
+use native.Mathlib.Nat.{add-mul, mul-comm, mod-eq-of-lt, mod-eq-sub-mod}
 use borrow.Author.Needs.{needs}
 use borrow.Rule.Slice.PartMut.{putMid}
 use lib.Bits.{bitXor, xor-zero-r}
-use lib.ListN.{length, getD, take, drop}
+use lib.ListN.{length, getD}
 use Rattle.std.specs.shelf.Lists.{between}
 use Rattle.std.proofs.shelf.Lists.{places, getD-past, getD-drop}
 use Rattle.std.proofs.shelf.Parts.{between-to-end}

@@ -1,18 +1,16 @@
 -- The map from p rows to p rows, b r = a (r + u) ⊕ a (r + v), indices by the prime p, u and v distinct.
-use Prim.Native.Nat.{ℕ, zero, suc, _+_, _-_, _*_, _/_, _%_, _<_, _≤_, _^_}
-use mathlib.Core.Path.{_≡_, refl, sym, ap, _∙_}
-use mathlib.Core.Logic.{_⊎_, inl, inr}
-use mathlib.Core.Bool.{cond}
+use Prim.Native.Nat.{ℕ, zero, suc, _+_, _-_, _*_, _%_, _<_, _≤_, _^_}
+use mathlib.Core.Path.{_≡_, sym, ap, _∙_}
+use mathlib.Core.Logic.{inl, inr}
 use native.Mathlib.Omega.{arith}
-use native.Mathlib.Nat.{add-comm, add-assoc, mul-comm, mul-assoc, mul-suc, suc-mul, mul-zero, zero-mul, add-mul, mul-add, mod-add-mod, add-mod-mod, add-mul-mod-self-right, add-mul-mod-self-left, mul-mod-left, mul-mod-right, mod-eq-of-lt, mod-lt, mod-mod, mul-one, one-mul}
-use lib.Bits.{bitXor, xor-comm, xor-assoc, xor-self, xor-zero-l, xor-zero-r, xor-lt}
+use native.Mathlib.Nat.{add-comm, add-assoc, mul-comm, mul-assoc, mul-suc, suc-mul, mod-add-mod, add-mul-mod-self-right, add-mul-mod-self-left, mod-eq-of-lt, mod-lt, mod-mod, one-mul}
+use lib.Bits.{bitXor, xor-self}
 use lib.Dec.{ltb}
 use Rattle.std.proofs.shelf.Tests.{cases-eq, cond-true, cond-false, cond-both, lt-ltb, le-ltb, ltb-true}
-use Rattle.prime.specs.Primes.{Prime}
 use Rattle.prime.specs.Rows.{xors}
 use Rattle.prime.specs.Diagonals.{walk, steps, closed, solved}
 use Rattle.prime.proofs.Xors.{xor-cancel, xor-same-l, xors-same, xors-xor, xors-order, xors-lt}
-use Rattle.prime.proofs.Mods.{add-cong, add-cong-r, mul-cong, cancel, inverse}
+use Rattle.prime.proofs.Mods.{add-cong-r, mul-cong}
 
 module _ (p : ℕ) (big : 1 < p) where
   whole : (z : ℕ) → z + z * (p - 1) ≡ z * p

@@ -1,7 +1,7 @@
 -- The sizes of a block of p − 1 rows of w bytes, n bytes in all, as linear facts.
 use Prim.Native.Nat.{ℕ, _+_, _-_, _*_, _%_, _<_, _≤_}
 use mathlib.Core.Path.{_≡_, sym, ap, _∙_}
-use mathlib.Core.Logic.{_⊎_, inl, inr}
+use mathlib.Core.Logic.{inl, inr}
 use native.Mathlib.Omega.{arith}
 use native.Mathlib.Nat.{mul-zero, mul-comm, mod-eq-of-lt, mod-eq-sub-mod}
 use Rattle.std.proofs.shelf.Bits.{mul-le, mul-add-lt}

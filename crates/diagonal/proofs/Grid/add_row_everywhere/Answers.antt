@@ -1,11 +1,4 @@
-use Prim.Native.Nat.{ℕ, _+_, _-_, _*_, _%_, _<_, _≤_}
-use mathlib.Core.Path.{_≡_, refl, sym, ap, _∙_}
-use mathlib.Core.List.{List}
 use native.Mathlib.Omega.{arith}
-use borrow.Author.Needs.{needs}
-use lib.ListN.{length, getD, replicate, length-replicate}
-use lib.Dec.{lit≤}
-use Rattle.prime.proofs.Sizes.{Sizes}
 use Rattle.diagonal.proofs.Facts.{sizes-of}
 use Rattle.prime.proofs.Repeats.{row-everywhere, no-row-everywhere, length-row}
 use Rattle.diagonal.proofs.Grid.add_row_everywhere.Needs as need

@@ -1,7 +1,6 @@
-use Prim.Native.Nat.{ℕ, _-_, _*_, _≤_}
-use mathlib.Core.Path.{_≡_, ap}
+use Prim.Native.Nat.{ℕ, _*_}
+use mathlib.Core.Path.{ap}
 use native.Mathlib.Omega.{arith}
-use Rattle.prime.proofs.Sizes.{Sizes}
 use Rattle.prime.proofs.Runs.{two-runs}
 use Rattle.diagonal.proofs.Facts.{sizes-of}
 use Rattle.diagonal.proofs.Grid.add_shifted.Needs as need

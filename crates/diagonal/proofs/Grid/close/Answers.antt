@@ -1,11 +1,6 @@
-use Prim.Native.Nat.{ℕ, _+_, _-_, _*_, _%_, _<_, _≤_}
-use mathlib.Core.Path.{_≡_, refl, sym, ap, _∙_}
-use mathlib.Core.List.{List}
+use mathlib.Core.Path.{refl, _∙_}
 use native.Mathlib.Omega.{arith}
-use borrow.Author.Needs.{needs}
-use lib.ListN.{length, getD, replicate, length-replicate}
-use lib.Dec.{lit≤}
-use Rattle.prime.proofs.Sizes.{Sizes}
+use lib.ListN.{replicate}
 use Rattle.diagonal.proofs.Facts.{sizes-of}
 use Rattle.prime.proofs.Repeats.{closes, length-row, byte-of-zeros}
 use Rattle.diagonal.proofs.Grid.close.Needs as need

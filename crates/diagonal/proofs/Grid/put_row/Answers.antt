@@ -1,11 +1,6 @@
-use Prim.Native.Nat.{ℕ, _+_, _-_, _*_, _%_, _<_, _≤_}
-use mathlib.Core.Path.{_≡_, refl, sym, ap, _∙_}
-use mathlib.Core.List.{List}
+use Prim.Native.Nat.{_+_, _-_, _*_}
+use mathlib.Core.Path.{sym}
 use native.Mathlib.Omega.{arith}
-use borrow.Author.Needs.{needs}
-use lib.ListN.{length, getD}
-use Rattle.prime.proofs.Sizes.{Sizes}
-use Rattle.diagonal.proofs.Facts.{sizes-of}
 use Rattle.std.proofs.shelf.Parts.{putMid-paste}
 use Rattle.diagonal.proofs.Grid.put_row.Needs as need
 

@@ -1,11 +1,7 @@
-use Prim.Native.Nat.{ℕ, _+_, _-_, _*_, _%_, _<_, _≤_}
-use mathlib.Core.Path.{_≡_, refl, sym, ap, _∙_}
-use mathlib.Core.List.{List}
+use Prim.Native.Nat.{ℕ}
+use mathlib.Core.Path.{refl, ap, _∙_}
 use native.Mathlib.Omega.{arith}
-use borrow.Author.Needs.{needs}
-use lib.ListN.{length, getD, replicate, length-replicate}
-use lib.Dec.{lit≤}
-use Rattle.prime.proofs.Sizes.{Sizes}
+use lib.ListN.{getD, replicate}
 use Rattle.diagonal.proofs.Facts.{sizes-of}
 use Rattle.prime.proofs.Repeats.{filled-first, filled-more, filled-all}
 use Rattle.diagonal.proofs.Grid.repeat.Needs as need

@@ -1,16 +1,10 @@
-use Prim.Native.Nat.{ℕ, _+_, _-_, _*_, _%_, _<_, _≤_}
-use mathlib.Core.Path.{_≡_, refl, sym, ap, _∙_}
+use mathlib.Core.Path.{refl}
 use native.Mathlib.Omega.{arith}
-use lib.ListN.{length, replicate}
-use Rattle.prime.proofs.Sizes.{Sizes}
+use lib.ListN.{replicate}
 use Rattle.prime.proofs.Repeats.{length-row, byte-of-zeros}
-use Rattle.prime.proofs.Walks.{Walked, Stride, stride, walked-none, walked-more, walk-solves, next-within, low-k, low-r, first-row}
-use Rattle.diagonal.specs.declared.Grid.{Grid}
+use Rattle.prime.proofs.Walks.{Stride, stride, walked-none, walked-more, walk-solves, next-within, low-k, low-r, first-row}
 use Rattle.diagonal.proofs.Facts.{sizes-of}
 use Rattle.diagonal.proofs.Grid.solve_pair.Needs as need
-
-stride-of : (c : need.After-fold-step) → Stride (c .args .self .now .prime) (c .fold-step .result)
-stride-of c = stride (c .args .self .now .prime) (c .args .self .now .indivisible) (c .args .u) (c .args .v) (c .fold-step .result) (c .pre .low) (c .pre .apart) (c .fold-step .ensures .value)
 
 pub add-v : need.add-v
 add-v c = omega (arith, sizes-of (c .args .self .now) .low)
@@ -27,20 +21,17 @@ loop-m-holds c =
 pub row-requires : need.row-requires
 row-requires c κs =
     let g = c .args .self .now in
-    let d = stride (g .prime) (g .indivisible) (c .args .u) (c .args .v) (c .fold-step .result) (c .pre .low) (c .pre .apart) (c .fold-step .ensures .value) in
-    record { within = omega (arith, sizes-of g .run (c .loop-m .r) (low-r d (c .loop-m .inv)), sizes-of g .short, c .close-given .ensures .long) }
+    record { within = omega (arith, sizes-of g .run (c .loop-m .r) (low-r (c .loop-m .inv)), sizes-of g .short, c .close-given .ensures .long) }
 
 pub add-k : need.add-k
 add-k c =
     let g = c .args .self .now in
-    let d = stride (g .prime) (g .indivisible) (c .args .u) (c .args .v) (c .fold-step .result) (c .pre .low) (c .pre .apart) (c .fold-step .ensures .value) in
-    omega (arith, sizes-of g .low, d .low, low-k d (c .loop-m .inv))
+    omega (arith, sizes-of g .low, c .loop-m .inv .stride .low, low-k (c .loop-m .inv))
 
 pub add-r : need.add-r
 add-r c =
     let g = c .args .self .now in
-    let d = stride (g .prime) (g .indivisible) (c .args .u) (c .args .v) (c .fold-step .result) (c .pre .low) (c .pre .apart) (c .fold-step .ensures .value) in
-    omega (arith, sizes-of g .low, d .low, low-r d (c .loop-m .inv))
+    omega (arith, sizes-of g .low, c .loop-m .inv .stride .low, low-r (c .loop-m .inv))
 
 pub row-requires-in-loop-m : need.row-requires-in-loop-m
 row-requires-in-loop-m c κs = record { within = omega (arith, sizes-of (c .args .self .now) .short, c .xor-run .kept .into, c .loop-m .inv .room) }
@@ -48,18 +39,16 @@ row-requires-in-loop-m c κs = record { within = omega (arith, sizes-of (c .args
 pub put-row-requires : need.put-row-requires
 put-row-requires c κs =
     let g = c .args .self .now in
-    let d = stride (g .prime) (g .indivisible) (c .args .u) (c .args .v) (c .fold-step .result) (c .pre .low) (c .pre .apart) (c .fold-step .ensures .value) in
     record {
       sized = length-row (g .width) 0 (c .xor-run .last .into) (c .row-in-loop-m .result .now) (omega (arith, sizes-of g .short, c .xor-run .kept .into, c .loop-m .inv .room)) (c .row-in-loop-m .ensures .value);
-      within = omega (arith, sizes-of g .within (c .fold-k .result) (next-within (sizes-of g) d (c .loop-m .inv) (c .loop-m-test .taken) (c .fold-k .ensures .value)), c .loop-m .inv .long);
+      within = omega (arith, sizes-of g .within (c .fold-k .result) (next-within (sizes-of g) (c .loop-m .inv) (c .loop-m-test .taken) (c .fold-k .ensures .value)), c .loop-m .inv .long);
     }
 
 pub loop-m-again : need.loop-m-again
 loop-m-again c =
     let g = c .args .self .now in
-    let d = stride (g .prime) (g .indivisible) (c .args .u) (c .args .v) (c .fold-step .result) (c .pre .low) (c .pre .apart) (c .fold-step .ensures .value) in
-    walked-more (sizes-of g) d (c .loop-m .inv) (c .loop-m-test .taken) (c .fold-k .ensures .value) (c .close-given .result) (c .row .result .now) (c .xor-run .last .into)
-    (c .close-given .ensures .cells) (omega (arith, sizes-of g .run (c .loop-m .r) (low-r d (c .loop-m .inv)), sizes-of g .short, c .close-given .ensures .long)) (c .fold-r-in-loop-m .ensures .value)
+    walked-more (sizes-of g) (c .loop-m .inv) (c .loop-m-test .taken) (c .fold-k .ensures .value) (c .close-given .result) (c .row .result .now) (c .xor-run .last .into)
+    (c .close-given .ensures .cells) (omega (arith, sizes-of g .run (c .loop-m .r) (low-r (c .loop-m .inv)), sizes-of g .short, c .close-given .ensures .long)) (c .fold-r-in-loop-m .ensures .value)
     (c .row .ensures .value) (c .xor-run .ensures .after) (c .row-in-loop-m .ensures .value) (c .put-row .ensures .after)
 
 pub returns : need.returns

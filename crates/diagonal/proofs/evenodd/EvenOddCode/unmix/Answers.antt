@@ -1,12 +1,10 @@
-use Prim.Native.Nat.{ℕ, _+_, _-_, _%_}
-use mathlib.Core.Path.{_≡_, refl, ap, _∙_}
-use mathlib.Core.List.{List}
+use Prim.Native.Nat.{ℕ}
+use mathlib.Core.Path.{refl, ap, _∙_}
 use native.Mathlib.Omega.{arith}
 use borrow.Author.Needs.{needs}
 use lib.ListN.{replicate}
 use Rattle.code.specs.Blocks.{_⊕_}
 use Rattle.prime.specs.Rows.{everywhere}
-use Rattle.prime.proofs.Sizes.{Sizes}
 use Rattle.prime.proofs.Repeats.{byte-of-zeros}
 use Rattle.prime.proofs.Mixings.{evenodd-unmixed}
 use Rattle.diagonal.proofs.Facts.{sizes-of}

@@ -1,7 +1,6 @@
 use native.Mathlib.Omega.{arith}
 use borrow.Author.Needs.{needs}
 use Rattle.prime.proofs.Laws.{differ-one}
-use Rattle.prime.proofs.Sizes.{Sizes}
 use Rattle.diagonal.proofs.Facts.{sizes-of}
 use Rattle.diagonal.proofs.rdp.RdpCode.unmix.Needs as need
 
