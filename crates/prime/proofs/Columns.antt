@@ -1,4 +1,4 @@
--- The three maps of one column of a block (a function of the row, zero at row p − 1) and their inverses.
+-- The maps of one column of a block (a function of the row, zero at row p − 1) that the codes are made of, and their inverses.
 use Prim.Native.Nat.{ℕ, zero, suc, _+_, _-_, _*_, _%_, _<_, _^_}
 use mathlib.Core.Path.{_≡_, refl, sym, ap, _∙_}
 use mathlib.Core.Logic.{inl, inr}
@@ -13,12 +13,19 @@ use Rattle.prime.proofs.Shifts.{paired, paired-last, paired-one, closed-in, cl
 
 -- F is linear and looks at rows below p alone; G undoes it on the rows below p − 1
 pub record Column (p : ℕ) (F G : (ℕ → ℕ) → ℕ → ℕ) : Type 0 where
+  -- F looks at rows below p alone
   pub looks : (a a′ : ℕ → ℕ) → ((k : ℕ) → k < p → a k ≡ a′ k) → (r : ℕ) → r < p - 1 → F a r ≡ F a′ r
+  -- F of a ⊕ is the ⊕ of the two
   pub linear : (a b : ℕ → ℕ) (r : ℕ) → F (λ k. bitXor (a k) (b k)) r ≡ bitXor (F a r) (F b r)
+  -- F stays within w bits
   pub small : (w : ℕ) (a : ℕ → ℕ) → ((k : ℕ) → a k < 2 ^ w) → (r : ℕ) → F a r < 2 ^ w
+  -- F is one-to-one
   pub one : (a a′ : ℕ → ℕ) → a (p - 1) ≡ 0 → a′ (p - 1) ≡ 0 → ((r : ℕ) → r < p - 1 → F a r ≡ F a′ r) → (k : ℕ) → k < p → a k ≡ a′ k
+  -- G leaves row p − 1 zero
   pub top : (b : ℕ → ℕ) → G b (p - 1) ≡ 0
+  -- F undoes G
   pub onto : (b : ℕ → ℕ) → b (p - 1) ≡ 0 → (r : ℕ) → r < p - 1 → F (G b) r ≡ b r
+  -- G stays within w bits
   pub small-back : (w : ℕ) (b : ℕ → ℕ) → ((r : ℕ) → b r < 2 ^ w) → (k : ℕ) → G b k < 2 ^ w
 
 -- the ⊕ of an even number of the same
@@ -36,7 +43,7 @@ xor-again a b = xor-assoc a b b ∙ rw (xor-self b) (xor-zero-r a)
 xor-same-r : (a x y : ℕ) → bitXor x a ≡ bitXor y a → x ≡ y
 xor-same-r a x y h = sym (xor-again x a) ∙ ap (λ n. bitXor n a) h ∙ xor-again y a
 
--- each row of c and row p − 1 of c
+-- each row of c with row p − 1 of c added
 abbrev pub adjusted : ℕ → (ℕ → ℕ) → ℕ → ℕ
 adjusted p c r = bitXor (c r) (c (p - 1))
 

@@ -1,4 +1,4 @@
--- The map from p rows to p rows, b r = a (r + u) ⊕ a (r + v), indices by the prime p, u and v distinct.
+-- The sum of two shifts of a column, b r = a (r + u) ⊕ a (r + v), rows counted modulo the prime p, u and v distinct: the walk inverts it.
 use Prim.Native.Nat.{ℕ, zero, suc, _+_, _-_, _*_, _%_, _<_, _≤_, _^_}
 use mathlib.Core.Path.{_≡_, sym, ap, _∙_}
 use mathlib.Core.Logic.{inl, inr}
@@ -20,6 +20,7 @@ module _ (p : ℕ) (big : 1 < p) where
   pub turns : (x z : ℕ) → (x + (z + z * (p - 1))) % p ≡ x % p
   turns x z = ap (λ n. (x + n) % p) (whole z) ∙ add-mul-mod-self-right x z p
 
+  -- a walk in steps of d, which has the inverse e, meets every row once
   module _ (d e : ℕ) (inv : (d * e) % p ≡ 1) where
     times : (x : ℕ) → (x * d * e) % p ≡ x % p
     times x = ap (λ n. n % p) (mul-assoc x d e ∙ mul-comm x (d * e)) ∙ mul-cong p (d * e) 1 x (inv ∙ sym (mod-eq-of-lt big)) ∙ ap (λ n. n % p) (one-mul x)
@@ -90,7 +91,7 @@ module _ (p : ℕ) (big : 1 < p) (u v : ℕ) where
     pub start : walk p (p - 1) d 0 ≡ p - 1
     start = ap (λ n. n % p) (omega arith) ∙ mod-eq-of-lt (omega arith)
 
-    -- one-to-one
+    -- one-to-one: along the walk each row follows from the one before
     pub paired-one : (a a′ : ℕ → ℕ) → a (p - 1) ≡ a′ (p - 1) → ((r : ℕ) → r < p - 1 → paired p u v a r ≡ paired p u v a′ r) → (k : ℕ) → k < p → a k ≡ a′ k
     paired-one a a′ top same k h = rw (walk-steps p big d e inv (p - 1) k h) at (along (steps p (p - 1) e k))
       where
@@ -119,7 +120,7 @@ module _ (p : ℕ) (big : 1 < p) (u v : ℕ) where
         along zero = ap a start ∙ top ∙ ap a′ (sym start)
         along (suc m) = rw (walk-more p big (p - 1) d m) (step (walk p (p - 1) d m) (mod-lt (p - 1 + m * d) (omega arith)) (along m))
 
-    -- onto
+    -- onto: the rows that the walk adds up are a solution, since a closed column adds up to zero
     closed-total : (b : ℕ → ℕ) → xors (closed p b) p ≡ 0
     closed-total b = xors-last p big (closed p b) ∙ rw (closed-end p b, xors-same (closed p b) b (p - 1) (closed-in p b)) (xor-self (xors b (p - 1)))
 

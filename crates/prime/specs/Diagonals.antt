@@ -54,7 +54,7 @@ unadjusted-block p w b = rows p w (λ r t. unadjusted p (λ k. cell w b k t) r)
 
 -- Row-diagonal parity: row r of mixing j is row (r − j) mod p ⊕ row (r + 1) mod p.
 -- Its diagonals run over the data columns and over P: the second term is what the block adds to Q through P.
--- Leaving that term out is the known mistake: mixing j then drops row p − 1 − j of the block, and cannot be undone.
+-- Leaving that term out is the known mistake: a mixing j above 0 then drops row p − 1 − j of the block, and cannot be undone.
 abbrev pub rdp : ℕ → ℕ → Coding
 rdp p w = record {
   limit = p - 1;
