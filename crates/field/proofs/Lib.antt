@@ -5,3 +5,4 @@ pub mod Logs
 pub mod Laws
 pub mod Tables
 pub mod Terms
+pub mod Division

@@ -18,13 +18,13 @@ exchange a b c d =
     ∙ ap (bitXor a) (sym (xor-assoc b c d) ∙ ap (λ x. bitXor x d) (xor-comm b c) ∙ xor-assoc c b d)
     ∙ sym (xor-assoc a c (bitXor b d))
 
-twice-xor : (a b : ℕ) → bitXor a b * 2 ≡ bitXor (a * 2) (b * 2)
+pub twice-xor : (a b : ℕ) → bitXor a b * 2 ≡ bitXor (a * 2) (b * 2)
 twice-xor a b = sym (simp add-zero at (xor-block 1 a b 0 0 (lit< tt) (lit< tt)))
 
-shifted-low : (a : ℕ) → a < 128 → shifted a ≡ a * 2
+pub shifted-low : (a : ℕ) → a < 128 → shifted a ≡ a * 2
 shifted-low a h = ap (λ t. cond t (a * 2) (bitXor (a * 2) 0x11D)) (lt-ltb a 128 h)
 
-shifted-high : (a : ℕ) → 128 ≤ a → shifted a ≡ bitXor (a * 2) 0x11D
+pub shifted-high : (a : ℕ) → 128 ≤ a → shifted a ≡ bitXor (a * 2) 0x11D
 shifted-high a h = ap (λ t. cond t (a * 2) (bitXor (a * 2) 0x11D)) (le-ltb a 128 h)
 
 -- the top digit of a byte, as a quotient

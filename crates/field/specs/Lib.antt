@@ -1,4 +1,5 @@
 pub mod Field
+pub mod Division
 pub mod Mixing
 pub mod Terms
 pub mod Theorems
