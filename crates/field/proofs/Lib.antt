@@ -1,3 +1,4 @@
+pub mod Steps
 pub mod Linear
 pub mod Tests
 pub mod Powers

@@ -1,71 +1,19 @@
 -- The product is linear in each factor.
-use mathlib.Core.Path.{_≡_, refl, sym, ap, ap₂, _∙_, subst}
-use mathlib.Core.Bool.{Bool, true, false, cond}
-use mathlib.Core.Logic.{_⊎_, inl, inr, ⊎-elim}
-use Prim.Native.Nat.{ℕ, zero, suc, _+_, _-_, _*_, _/_, _%_, _^_, _<_, _≤_}
+use mathlib.Core.Path.{_≡_, refl, sym, ap, ap₂, _∙_}
+use Prim.Native.Nat.{ℕ, zero, suc, _/_, _%_, _<_}
 use native.Mathlib.Omega.{arith}
-use native.Mathlib.Nat.{mod-lt, zero-lt-suc, add-zero}
-use lib.Dec.{ltb, lit<}
-use borrow.Author.Tests.{lt-ltb, le-ltb}
-use Rattle.std.proofs.shelf.Tests.{cases-lt}
-use lib.Bits.{bitXor, xor-assoc, xor-comm, xor-self, xor-zero-r, xor-lt, xor-shr, xor-mod, xor-block}
-use Rattle.field.specs.Field.{shifted, chosen, product, times, power}
+use native.Mathlib.Nat.{mod-lt, zero-lt-suc}
+use lib.Dec.{lit<}
+use lib.Bits.{bitXor, xor-self, xor-zero-r, xor-lt, xor-shr, xor-mod}
+use Rattle.field.specs.Field.{shifted, chosen, product}
+use Rattle.field.proofs.Steps.{exchange, shifted-xor, shifted-lt}
 
--- (a ⊕ b) ⊕ (c ⊕ d) with the middle two exchanged
-pub exchange : (a b c d : ℕ) → bitXor (bitXor a b) (bitXor c d) ≡ bitXor (bitXor a c) (bitXor b d)
-exchange a b c d =
-    xor-assoc a b (bitXor c d)
-    ∙ ap (bitXor a) (sym (xor-assoc b c d) ∙ ap (λ x. bitXor x d) (xor-comm b c) ∙ xor-assoc c b d)
-    ∙ sym (xor-assoc a c (bitXor b d))
-
-pub twice-xor : (a b : ℕ) → bitXor a b * 2 ≡ bitXor (a * 2) (b * 2)
-twice-xor a b = sym (simp add-zero at (xor-block 1 a b 0 0 (lit< tt) (lit< tt)))
-
-pub shifted-low : (a : ℕ) → a < 128 → shifted a ≡ a * 2
-shifted-low a h = ap (λ t. cond t (a * 2) (bitXor (a * 2) 0x11D)) (lt-ltb a 128 h)
-
-pub shifted-high : (a : ℕ) → 128 ≤ a → shifted a ≡ bitXor (a * 2) 0x11D
-shifted-high a h = ap (λ t. cond t (a * 2) (bitXor (a * 2) 0x11D)) (le-ltb a 128 h)
-
--- the top digit of a byte, as a quotient
-low-top : (a : ℕ) → a < 128 → a / 128 ≡ 0
-low-top a h = omega arith
-
-high-top : (a : ℕ) → 128 ≤ a → a < 256 → a / 128 ≡ 1
-high-top a h l = omega arith
-
-shifted-by : (a b : ℕ) → a < 256 → b < 256 → (a < 128) ⊎ (128 ≤ a) → (b < 128) ⊎ (128 ≤ b) → shifted (bitXor a b) ≡ bitXor (shifted a) (shifted b)
-shifted-by a b ha hb (inl p) (inl q) =
-    shifted-low (bitXor a b) (xor-lt 7 a b p q) ∙ twice-xor a b ∙ sym (ap₂ bitXor (shifted-low a p) (shifted-low b q))
-shifted-by a b ha hb (inl p) (inr q) =
-    let top : bitXor a b / 128 ≡ 1 = xor-shr a b 7 ∙ ap₂ bitXor (low-top a p) (high-top b q hb) in
-    shifted-high (bitXor a b) (omega arith) ∙ ap (λ x. bitXor x 0x11D) (twice-xor a b) ∙ xor-assoc (a * 2) (b * 2) 0x11D
-    ∙ sym (ap₂ bitXor (shifted-low a p) (shifted-high b q))
-shifted-by a b ha hb (inr p) (inl q) =
-    let top : bitXor a b / 128 ≡ 1 = xor-shr a b 7 ∙ ap₂ bitXor (high-top a p ha) (low-top b q) in
-    shifted-high (bitXor a b) (omega arith) ∙ ap (λ x. bitXor x 0x11D) (twice-xor a b ∙ xor-comm (a * 2) (b * 2)) ∙ xor-assoc (b * 2) (a * 2) 0x11D
-    ∙ xor-comm (b * 2) (bitXor (a * 2) 0x11D) ∙ sym (ap₂ bitXor (shifted-high a p) (shifted-low b q))
-shifted-by a b ha hb (inr p) (inr q) =
-    let top : bitXor a b / 128 ≡ 0 = xor-shr a b 7 ∙ ap₂ bitXor (high-top a p ha) (high-top b q hb) in
-    shifted-low (bitXor a b) (omega arith) ∙ twice-xor a b ∙ sym (xor-zero-r (bitXor (a * 2) (b * 2)))
-    ∙ sym (ap₂ bitXor (shifted-high a p) (shifted-high b q) ∙ exchange (a * 2) 0x11D (b * 2) 0x11D)
-
-pub shifted-xor : (a b : ℕ) → a < 256 → b < 256 → shifted (bitXor a b) ≡ bitXor (shifted a) (shifted b)
-shifted-xor a b ha hb = shifted-by a b ha hb (cases-lt a 128) (cases-lt b 128)
-
--- a reduced shift stays below 256
-shifted-high-lt : (a : ℕ) → a < 256 → 128 ≤ a → shifted a < 256
-shifted-high-lt a h p =
-    let top : a * 2 / 256 ≡ 1 = omega arith in
-    let none : bitXor (a * 2) 0x11D / 256 ≡ 0 = xor-shr (a * 2) 0x11D 8 ∙ ap (λ n. bitXor n 1) top in
-    subst (λ (n : ℕ). n < 256) (sym (shifted-high a p)) (omega arith)
-
-pub shifted-lt : (a : ℕ) → a < 256 → shifted a < 256
-shifted-lt a h = ⊎-elim (λ p. subst (λ (n : ℕ). n < 256) (sym (shifted-low a p)) (omega arith)) (λ p. shifted-high-lt a h p) (cases-lt a 128)
+pub chosen-below : (d a w : ℕ) → 0 < w → a < w → chosen d a < w
+chosen-below zero a w p h = p
+chosen-below (suc d) a w p h = h
 
 pub chosen-lt : (d a : ℕ) → a < 256 → chosen d a < 256
-chosen-lt zero a h = lit< tt
-chosen-lt (suc d) a h = h
+chosen-lt d a h = chosen-below d a 256 (lit< tt) h
 
 pub product-lt : (n a b : ℕ) → a < 256 → product n a b < 256
 unfolding product

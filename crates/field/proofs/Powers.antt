@@ -11,7 +11,8 @@ use Rattle.std.proofs.shelf.Bits.{div-add-mod'}
 use Rattle.std.proofs.shelf.Tests.{cases-lt, cases-order}
 use Rattle.field.specs.Field.{shifted, product, times, power}
 use Rattle.field.specs.Terms.{shifts}
-use Rattle.field.proofs.Linear.{shifted-lt, product-lt, product-xor, xor-product, product-shifted}
+use Rattle.field.proofs.Steps.{shifted-lt}
+use Rattle.field.proofs.Linear.{product-lt, product-xor, xor-product, product-shifted}
 use Rattle.field.proofs.Tests.{absent, times-two, times-one, none-back, last-back}
 
 -- ---- products of elements
