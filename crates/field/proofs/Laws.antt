@@ -3,11 +3,10 @@ use mathlib.Core.Path.{_≡_, refl, sym, ap, ap₂, _∙_, subst}
 use mathlib.Core.List.{List, [], _∷_, map}
 use Prim.Native.Nat.{ℕ, _-_, _<_}
 use lib.Bits.{bitXor}
-use lib.ListN.{length, getD, length-map, List·getD-map}
+use lib.ListN.{getD, length-map, List·getD-map}
 use Rattle.std.proofs.shelf.Lists.{ext-getD}
-use Rattle.code.specs.Blocks.{Bytes, _⊕_, block-size}
+use Rattle.code.specs.Blocks.{Bytes, _⊕_}
 use Rattle.code.specs.Codes.{Inverse, Lawful}
-use Rattle.code.proofs.Blocks.{sum-bytes}
 use Rattle.field.specs.Field.{times, power, inverse}
 use Rattle.field.specs.Mixing.{mixed, unmixed, unpaired, pq}
 use Rattle.field.proofs.Powers.{times-lt, times-xor, xor-times, times-zero, power-lt, power-pos}

@@ -1,14 +1,13 @@
 -- Each element but 0 is a power of 2: its logarithm, and what divides by it.
-use mathlib.Core.Path.{_≡_, refl, sym, ap, ap₂, _∙_, subst}
+use mathlib.Core.Path.{_≡_, refl, sym, ap, _∙_}
 use mathlib.Core.Bool.{cond}
-use mathlib.Core.Logic.{_⊎_, inl, inr}
+use mathlib.Core.Logic.{inl, inr}
 use Prim.Native.Nat.{ℕ, zero, suc, _+_, _-_, _<_, _≤_}
 use native.Mathlib.Omega.{arith}
 use lib.Dec.{eqb}
 use lib.Bits.{bitXor, xor-assoc, xor-self, xor-zero-r, xor-lt}
 use Rattle.std.proofs.shelf.Tests.{cases-lt, cases-eq, cond-both, eq-eqb, ne-eqb}
 use Rattle.field.specs.Field.{times, power, exponent, log, inverse}
-use Rattle.field.specs.Terms.{shifts}
 use Rattle.field.specs.Theorems.{Generated}
 use Rattle.field.proofs.Powers.{power-lt, power-pos, power-once, power-shift, powers-undo, length-shifts, getD-shifts}
 use Rattle.field.proofs.Tests.{reach}

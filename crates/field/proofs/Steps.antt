@@ -5,7 +5,7 @@ use mathlib.Core.Logic.{_⊎_, inl, inr}
 use Prim.Native.Nat.{ℕ, suc, _+_, _*_, _/_, _^_, _<_, _≤_}
 use native.Mathlib.Omega.{arith}
 use native.Mathlib.Nat.{add-suc, add-zero, mul-div-mul-right, pow-succ'}
-use lib.Dec.{ltb, lit<}
+use lib.Dec.{lit<}
 use lib.Bits.{bitXor, xor-assoc, xor-comm, xor-self, xor-zero-r, xor-lt, xor-shr, xor-block}
 use Rattle.std.proofs.shelf.Bits.{pow-pos, pow-add, div-below, le-div}
 use Rattle.std.proofs.shelf.Tests.{cases-lt, lt-ltb, le-ltb}

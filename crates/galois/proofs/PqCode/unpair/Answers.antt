@@ -1,4 +1,4 @@
-use mathlib.Core.Path.{_≡_, _∙_, ap, ap₂, subst⁻¹}
+use mathlib.Core.Path.{_∙_, ap, ap₂, subst⁻¹}
 use mathlib.Core.List.{map}
 use Prim.Native.Nat.{ℕ, _<_}
 use borrow.Author.Needs.{needs}
