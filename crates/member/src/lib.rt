@@ -10,6 +10,10 @@ ghost use Rattle.member.specs.Faults.{cause-number, refusal};
 ghost use Rattle.member.specs.Meaning.{Meaning, look-refusal, read-refusal, write-refusal, handed};
 ghost use Rattle.member.specs.Changes.{Written, Ticked, Renewed, Lawful};
 
+pub mod cell;
+pub mod image;
+mod run;
+
 // How many blocks a member has at most.
 pub const MOST_BLOCKS: usize = 65_535;
 
