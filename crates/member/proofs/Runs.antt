@@ -1,24 +1,21 @@
 -- What a run of blocks holds, and what a write makes of it.
 use mathlib.Core.Path.{_≡_, refl, sym, ap, subst, _∙_}
-use mathlib.Core.Logic.{_⊎_, inl, inr, ⊎-elim}
-use mathlib.Core.Bool.{Bool, true, false, cond}
+use mathlib.Core.Logic.{⊎-elim}
+use mathlib.Core.Bool.{cond}
 use mathlib.Core.List.{List, [], _∷_, _++_}
 use Prim.Native.Nat.{ℕ, zero, suc, _+_, _-_, _*_, _/_, _<_, _≤_, min}
 use native.Mathlib.Omega.{arith}
 use lib.Dec.{eqb, ltb, lit<}
-use lib.ListN.{length, getD, take, drop, replicate, length-take, length-drop, length-append, length-replicate}
+use lib.ListN.{length, getD, take, drop, length-take, length-drop, length-append, length-replicate}
 use borrow.Rule.Slice.PartMut.{putMid}
-use Rattle.std.specs.declared.option.Option.{Option}
 use Rattle.std.specs.declared.option.Option.the-variants.{Some, None}
-use Rattle.std.proofs.shelf.Tests.{cond-true, cond-false, lt-ltb, le-ltb, eq-eqb, cases-bool, cases-order, cases-lt, ltb-true, eqb-true, cond-both}
+use Rattle.std.proofs.shelf.Tests.{cond-true, cond-false, cond-both, lt-ltb, le-ltb, ltb-true, eq-eqb, eqb-true, cases-order}
 use Rattle.std.proofs.shelf.Parts.{between-is, between-putMid, take-putMid-below, drop-putMid}
-use Rattle.code.specs.Blocks.{Bytes, Block, block-size}
+use Rattle.code.specs.Blocks.{Bytes, Block}
 use Rattle.code.proofs.Blocks.{bytes-zeros}
-use Rattle.member.specs.Faults.{Refusal}
-use Rattle.member.specs.Meaning.{Meaning, Sound, most-blocks, look-refusal, read-refusal, write-refusal, handed}
-use Rattle.member.specs.Changes.{Level, Kept, Taken, Written, Ticked, Renewed, Lawful}
+use Rattle.member.specs.Meaning.{Sound, most-blocks, read-refusal, write-refusal, handed}
+use Rattle.member.specs.Changes.{Taken, Written, Ticked, Renewed, Lawful}
 use Rattle.member.specs.Runs.{
-  whole-blocks,
   cut,
   pasted,
   run-meaning,
@@ -31,29 +28,33 @@ use Rattle.member.specs.Runs.{
   image-sound,
   image-meaning,
   image-wrote,
+  Rest-kept,
 }
+use Rattle.member.proofs.Outcomes.{taken-way, good-write, good-checked, checked-written}
 
--- ---- bytes
-module _ where
-  pub low-take : (n : ℕ) (xs : List ℕ) → ((i : ℕ) → getD xs i 0 < 256) → (i : ℕ) → getD (take n xs) i 0 < 256
-  low-take zero xs h i = lit< tt
-  low-take (suc n) [] h i = lit< tt
-  low-take (suc n) (x ∷ xs) h zero = h 0
-  low-take (suc n) (x ∷ xs) h (suc i) = low-take n xs (λ j. h (suc j)) i
+-- every number of the list is a byte
+abbrev pub Low : List ℕ → Type 0
+Low xs = (i : ℕ) → getD xs i 0 < 256
 
-  pub low-drop : (n : ℕ) (xs : List ℕ) → ((i : ℕ) → getD xs i 0 < 256) → (i : ℕ) → getD (drop n xs) i 0 < 256
-  low-drop zero xs h i = h i
-  low-drop (suc n) [] h i = lit< tt
-  low-drop (suc n) (x ∷ xs) h i = low-drop n xs (λ j. h (suc j)) i
+low-take : (n : ℕ) (xs : List ℕ) → Low xs → Low (take n xs)
+low-take zero xs h i = lit< tt
+low-take (suc n) [] h i = lit< tt
+low-take (suc n) (x ∷ xs) h zero = h 0
+low-take (suc n) (x ∷ xs) h (suc i) = low-take n xs (λ j. h (suc j)) i
 
-  pub low-append : (xs ys : List ℕ) → ((i : ℕ) → getD xs i 0 < 256) → ((i : ℕ) → getD ys i 0 < 256) → (i : ℕ) → getD (xs ++ ys) i 0 < 256
-  low-append [] ys h k i = k i
-  low-append (x ∷ xs) ys h k zero = h 0
-  low-append (x ∷ xs) ys h k (suc i) = low-append xs ys (λ j. h (suc j)) k i
+low-drop : (n : ℕ) (xs : List ℕ) → Low xs → Low (drop n xs)
+low-drop zero xs h i = h i
+low-drop (suc n) [] h i = lit< tt
+low-drop (suc n) (x ∷ xs) h i = low-drop n xs (λ j. h (suc j)) i
+
+low-append : (xs ys : List ℕ) → Low xs → Low ys → Low (xs ++ ys)
+low-append [] ys h k i = k i
+low-append (x ∷ xs) ys h k zero = h 0
+low-append (x ∷ xs) ys h k (suc i) = low-append xs ys (λ j. h (suc j)) k i
 
 -- ---- one block of a run
 module _ (xs : List ℕ) (b : ℕ) where
-  pub cut-block : b * 512 + 512 ≤ length xs → ((i : ℕ) → getD xs i 0 < 256) → Block (cut xs b)
+  pub cut-block : b * 512 + 512 ≤ length xs → Low xs → Block (cut xs b)
   cut-block fit h = record {
     long = simp (length-take, length-drop) (omega arith);
     bytes = low-take 512 (drop (b * 512) xs) (low-drop (b * 512) xs h);
@@ -63,7 +64,7 @@ module _ (xs v : List ℕ) (b : ℕ) (lv : length v ≡ 512) (fit : b * 512 + 51
   pub length-pasted : length (pasted xs b v) ≡ length xs
   length-pasted = simp (length-append, length-take, length-drop) (omega arith)
 
-  pub low-pasted : ((i : ℕ) → getD xs i 0 < 256) → ((i : ℕ) → getD v i 0 < 256) → (i : ℕ) → getD (pasted xs b v) i 0 < 256
+  pub low-pasted : Low xs → Low v → Low (pasted xs b v)
   low-pasted h k =
       low-append (take (b * 512) xs) (v ++ drop 512 (drop (b * 512) xs)) (low-take (b * 512) xs h)
       (low-append v (drop 512 (drop (b * 512) xs)) k (low-drop 512 (drop (b * 512) xs) (low-drop (b * 512) xs h)))
@@ -90,40 +91,17 @@ module _ (xs v : List ℕ) (b : ℕ) (lv : length v ≡ 512) (fit : b * 512 + 51
 
 -- ---- what is answered
 module _ (n : ℕ) (xs : List ℕ) (b : ℕ) (lt : b < n) where
-  pub look-ok : look-refusal (run-meaning n xs) b ≡ None
-  look-ok = simp (lt-ltb b n lt)
-
   pub read-ok : (len : ℕ) → len ≡ 512 → read-refusal (run-meaning n xs) b len ≡ None
-  read-ok len e = cond-true _ _ _ (eq-eqb len 512 e) ∙ look-ok
+  read-ok len e = simp (eq-eqb len 512 e, lt-ltb b n lt)
 
   pub write-ok : (len : ℕ) → len ≡ 512 → write-refusal (run-meaning n xs) b len ≡ None
-  write-ok len e = cond-true _ _ _ (eq-eqb len 512 e) ∙ cond-true _ _ _ (lt-ltb b n lt)
+  write-ok len e = good-write (run-meaning n xs) b lt len e
 
   pub handed-ok : (old : List ℕ) → length old ≡ 512 → handed (run-meaning n xs) b old ≡ cut xs b
   handed-ok old e = simp (eq-eqb (length old) 512 e, lt-ltb b n lt)
 
   pub wrote-ok : (v : List ℕ) → length v ≡ 512 → run-wrote n xs b v ≡ pasted xs b v
-  wrote-ok v e = cond-true _ _ _ (eq-eqb (length v) 512 e) ∙ cond-true _ _ _ (lt-ltb b n lt)
-
--- ---- how a write to a run is refused: the buffer first, then the number
-none≢some : (f : Refusal) → None ≡ Some f → ⊥
-none≢some f e = let z : _≡_ {A = ℕ} 0 1 = cc in omega arith
-
-both-true : (sized there : Bool) (x y : Refusal) → cond sized (cond there None (Some x)) (Some y) ≡ None → (sized ≡ true) × (there ≡ true)
-both-true true true x y e = (refl, refl)
-both-true true false x y e = absurd (none≢some x (sym e))
-both-true false there x y e = absurd (none≢some y (sym e))
-
-one-of : (sized there : Bool) (x y f : Refusal) → cond sized (cond there None (Some x)) (Some y) ≡ Some f → (f ≡ x) ⊎ (f ≡ y)
-one-of true true x y f e = absurd (none≢some f e)
-one-of true false x y f e = inl cc
-one-of false there x y f e = inr cc
-
-unchanged : (sized there : Bool) (x y f : Refusal) (new old : List ℕ) → cond sized (cond there None (Some x)) (Some y) ≡ Some f
-    → cond sized (cond there new old) old ≡ old
-unchanged true true x y f new old e = absurd (none≢some f e)
-unchanged true false x y f new old e = refl
-unchanged false there x y f new old e = refl
+  wrote-ok v e = good-checked (run-meaning n xs) b lt (length v) (pasted xs b v) xs e
 
 -- ---- a write to the first n blocks of a run
 module _ (n : ℕ) (xs : List ℕ) (room : n * 512 ≤ length xs) (b : ℕ) (v : List ℕ) where
@@ -145,32 +123,27 @@ module _ (n : ℕ) (xs : List ℕ) (room : n * 512 ≤ length xs) (b : ℕ) (v :
   }
 
   pub run-writes : Written (run-meaning n xs) b v (run-meaning n (run-wrote n xs b v))
-  run-writes = record {
-    accepted = λ e.
-        let p = both-true (eqb (length v) 512) (ltb b n) _ _ e in
-        let lv = eqb-true (length v) 512 (p .0) in
-        let lt = ltb-true b n (p .1) in
-        subst (λ ys. Taken (run-meaning n xs) b v (run-meaning n ys)) (sym (wrote-ok n xs b lt v lv)) (taken lv lt);
-    unwritable = λ f e three.
-        absurd (⊎-elim (λ q. omega (arith, ap (λ r. r .cause) q)) (λ q. omega (arith, ap (λ r. r .cause) q)) (one-of (eqb (length v) 512) (ltb b n) _ _ f e));
-    refused = λ f e other. ap (run-meaning n) (unchanged (eqb (length v) 512) (ltb b n) _ _ f (pasted xs b v) xs e);
-  }
+  run-writes = checked-written (run-meaning n) xs (pasted xs b v) b v (λ lv lt. taken-way refl refl (taken lv lt))
+
+  -- what holds of the run and of the run with v in place of block b holds after the write
+  wrote-both : (P : List ℕ → Type 0) → P xs → (length v ≡ 512 → b < n → P (pasted xs b v)) → P (run-wrote n xs b v)
+  wrote-both P old new =
+      cond-both (eqb (length v) 512) (cond (ltb b n) (pasted xs b v) xs) xs P
+      (λ e. cond-both (ltb b n) (pasted xs b v) xs P (λ l. new (eqb-true (length v) 512 e) (ltb-true b n l)) (λ _. old)) (λ _. old)
 
   pub length-wrote : length (run-wrote n xs b v) ≡ length xs
-  length-wrote =
-      cond-both (eqb (length v) 512) (cond (ltb b n) (pasted xs b v) xs) xs (λ ys. length ys ≡ length xs)
-      (λ e. cond-both (ltb b n) (pasted xs b v) xs (λ ys. length ys ≡ length xs)
-      (λ l. length-pasted xs v b (eqb-true (length v) 512 e) (fits (ltb-true b n l))) (λ _. refl))
-      (λ _. refl)
+  length-wrote = wrote-both (λ ys. length ys ≡ length xs) refl (λ lv lt. length-pasted xs v b lv (fits lt))
 
-  pub low-wrote : ((i : ℕ) → getD xs i 0 < 256) → ((i : ℕ) → getD v i 0 < 256) → (i : ℕ) → getD (run-wrote n xs b v) i 0 < 256
-  low-wrote h k i =
-      cond-both (eqb (length v) 512) (cond (ltb b n) (pasted xs b v) xs) xs (λ ys. getD ys i 0 < 256)
-      (λ e. cond-both (ltb b n) (pasted xs b v) xs (λ ys. getD ys i 0 < 256)
-      (λ l. low-pasted xs v b (eqb-true (length v) 512 e) (fits (ltb-true b n l)) h k i) (λ _. h i))
-      (λ _. h i)
+  pub low-wrote : Low xs → Low v → Low (run-wrote n xs b v)
+  low-wrote h k = wrote-both Low h (λ lv lt. low-pasted xs v b lv (fits lt) h k)
 
-pub run-sound : (n : ℕ) (xs : List ℕ) → n ≤ most-blocks → n * 512 ≤ length xs → ((i : ℕ) → getD xs i 0 < 256) → Sound (run-meaning n xs)
+  -- what lies beyond the first n blocks
+  pub rest-wrote : drop (n * 512) (run-wrote n xs b v) ≡ drop (n * 512) xs
+  rest-wrote =
+      wrote-both (λ ys. drop (n * 512) ys ≡ drop (n * 512) xs) refl
+      (λ lv lt. drop-putMid (b * 512) 512 xs v (n * 512) (omega arith) (omega arith) lv)
+
+pub run-sound : (n : ℕ) (xs : List ℕ) → n ≤ most-blocks → n * 512 ≤ length xs → Low xs → Sound (run-meaning n xs)
 run-sound n xs few room low = record {
   few = few;
   low = omega arith;
@@ -234,3 +207,6 @@ image-lawful = record {
   ticked-sound = λ s h. h;
   renewed-sound = λ s h. h;
 }
+
+pub rest-kept : Rest-kept
+rest-kept xs b v = rest-wrote (image-count xs) xs (image-room xs) b v

@@ -1,5 +1,8 @@
 -- Faults in numbers.
+use mathlib.Core.Path.{_≡_}
+use mathlib.Core.Bool.{Bool, false}
 use Prim.Native.Nat.{ℕ, _+_, min}
+use lib.Dec.{eqb}
 use Rattle.std.specs.declared.option.Option.{Option}
 use Rattle.std.specs.declared.option.Option.the-variants.{Some, None}
 use Rattle.std.specs.declared.result.Result.{Result}
@@ -39,6 +42,15 @@ numbers f = raised (f .cause) (record { height = f .height; block = f .block })
 abbrev pub refusal : {U : Type 0} → Result U Fault → Option Refusal
 refusal (Ok u) = None
 refusal (Err f) = Some (numbers f)
+
+-- whether it was refused with the cause of this number
+abbrev pub refused-with : ℕ → Option Refusal → Bool
+refused-with c None = false
+refused-with c (Some f) = eqb (f .cause) c
+
+-- the numbers determine the fault
+abbrev pub Told-apart : Type 0
+Told-apart = (f g : Fault) → numbers f ≡ numbers g → f ≡ g
 
 -- the height of a layer over what has height h: one more, stopping at 255
 abbrev pub above : ℕ → ℕ

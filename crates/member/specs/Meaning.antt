@@ -77,3 +77,7 @@ write-refusal m b n = on-buffer m b n (on-block m b (put-refusal m b))
 -- what the buffer of a read holds after it: the block's bytes, or what it held if the read is refused
 abbrev pub handed : Meaning → ℕ → List ℕ → List ℕ
 handed m b old = cond (isSome (read-refusal m b (length old))) old (valueOr (m .block b) old)
+
+-- what a call on block b with n bytes makes of a state: only with a block's bytes, and only at a block that there is, anything new
+abbrev pub checked : {S : Type 0} → Meaning → ℕ → ℕ → S → S → S
+checked m b n new old = cond (eqb n block-size) (cond (ltb b (m .count)) new old) old

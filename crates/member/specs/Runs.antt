@@ -1,13 +1,14 @@
 -- Blocks that lie one after the other in a run of bytes: what the kinds at the bottom are made of.
-use mathlib.Core.Bool.{Bool, true, false, cond}
+use mathlib.Core.Bool.{true, false, cond}
 use mathlib.Core.List.{List, _++_}
-use Prim.Native.Nat.{ℕ, _<_, _≤_, _*_, _/_, min}
-use lib.Dec.{eqb, ltb}
-use lib.ListN.{length, getD, take, drop, replicate}
+use mathlib.Core.Path.{_≡_}
+use Prim.Native.Nat.{ℕ, _*_, _/_, min}
+use lib.Dec.{ltb}
+use lib.ListN.{length, take, drop, replicate}
 use Rattle.std.specs.declared.option.Option.the-variants.{Some, None}
 use Rattle.code.specs.Blocks.{Bytes, block-size}
 use Rattle.member.specs.Faults.{Origin}
-use Rattle.member.specs.Meaning.{Meaning, most-blocks}
+use Rattle.member.specs.Meaning.{Meaning, most-blocks, checked}
 
 -- how many whole blocks a run has, counting at most so many
 abbrev pub whole-blocks : ℕ → List ℕ → ℕ
@@ -39,7 +40,7 @@ run-meaning n xs = record {
 
 -- the run after a write of v to block b of its first n: changed in that block alone, and only if the write is accepted
 abbrev pub run-wrote : ℕ → List ℕ → ℕ → List ℕ → List ℕ
-run-wrote n xs b v = cond (eqb (length v) block-size) (cond (ltb b n) (pasted xs b v) xs) xs
+run-wrote n xs b v = checked (run-meaning n xs) b (length v) (pasted xs b v) xs
 
 -- A cell has 8 blocks.
 abbrev pub cell-blocks : ℕ
@@ -73,3 +74,7 @@ image-meaning xs = run-meaning (image-count xs) xs
 
 abbrev pub image-wrote : List ℕ → ℕ → List ℕ → List ℕ
 image-wrote xs b v = run-wrote (image-count xs) xs b v
+
+-- no write changes the bytes beyond the last block
+abbrev pub Rest-kept : Type 0
+Rest-kept = (xs : List ℕ) (b : ℕ) (v : List ℕ) → drop (image-count xs * block-size) (image-wrote xs b v) ≡ drop (image-count xs * block-size) xs

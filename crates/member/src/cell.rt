@@ -3,7 +3,7 @@ ghost use mathlib.Core.Path.{_≡_};
 ghost use mathlib.Core.List.{List};
 ghost use Prim.Native.Nat.{ℕ, _<_};
 ghost use lib.ListN.{length, getD};
-ghost use Rattle.member.specs.Runs.{cell-sound, cell-meaning, cell-wrote, cell-zeros};
+ghost use Rattle.member.specs.Runs.{cell-bytes, cell-sound, cell-meaning, cell-wrote, cell-zeros};
 use crate::Fault;
 use crate::Member;
 use crate::run::look_in;
@@ -18,7 +18,7 @@ const BYTES: usize = 4096;
 #[derive(Drop)]
 pub struct Cell {
     bytes: [u8; BYTES],
-    ghost long: { length bytes ≡ 4096 },
+    ghost long: { length bytes ≡ cell-bytes },
     ghost low: { (i : ℕ) → getD bytes i 0 < 256 },
 }
 

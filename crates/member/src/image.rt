@@ -5,7 +5,7 @@ ghost use mathlib.Core.List.{List};
 ghost use Prim.Native.Nat.{ℕ, _<_};
 ghost use lib.ListN.{getD};
 ghost use Rattle.std.specs.Of.Vec.{vec-items};
-ghost use Rattle.member.specs.Runs.{image-sound, image-meaning, image-wrote};
+ghost use Rattle.member.specs.Runs.{image-sound, image-meaning, image-wrote, Rest-kept};
 use crate::Fault;
 use crate::MOST_BLOCKS;
 use crate::Member;
@@ -79,4 +79,11 @@ pub impl Member for Image as ImageMember {
     fn tick(&mut self) {}
 
     fn fresh(&mut self) {}
+}
+
+// What lies beyond the last block is given back as it was handed over.
+pub fn rest_kept() -> u8
+    ensures stands { λ _. ⌜ Rest-kept ⌝ }
+{
+    0
 }

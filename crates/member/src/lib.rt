@@ -3,16 +3,14 @@
 ghost use mathlib.Core.Path.{_≡_};
 ghost use mathlib.Core.List.{List};
 ghost use Prim.Native.Nat.{ℕ};
-ghost use lib.Dec.{eqb};
 ghost use lib.ListN.{length};
-ghost use Rattle.std.specs.declared.option.Option.the-variants.{None};
-ghost use Rattle.member.specs.Faults.{cause-number, refusal};
+ghost use Rattle.member.specs.Faults.{cause-number, refusal, refused-with, Told-apart};
 ghost use Rattle.member.specs.Meaning.{Meaning, look-refusal, read-refusal, write-refusal, handed};
 ghost use Rattle.member.specs.Changes.{Written, Ticked, Renewed, Lawful};
 
 pub mod cell;
 pub mod image;
-mod run;
+pub mod run;
 
 // How many blocks a member has at most.
 pub const MOST_BLOCKS: usize = 65_535;
@@ -56,6 +54,23 @@ impl Cause {
             Cause::NoSlot => 6,
         }
     }
+}
+
+// Whether a call was refused with this cause.
+pub fn refused_with(answer: &Result<(), Fault>, cause: Cause) -> bool
+    ensures value { λ r. ⌜ r ≡ refused-with (cause-number cause) (refusal (now (answer .entry))) ⌝ }
+{
+    match answer {
+        Ok(()) => false,
+        Err(fault) => fault.cause.number() == cause.number(),
+    }
+}
+
+// Promises in numbers leave nothing of a fault open.
+pub fn faults_told_apart() -> u8
+    ensures stands { λ _. ⌜ Told-apart ⌝ }
+{
+    0
 }
 
 // A member. Every kind and layer tests the buffer and then the block number itself and refuses them at its own height with the
