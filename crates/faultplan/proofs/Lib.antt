@@ -1,3 +1,4 @@
 pub mod Anys
 pub mod Events
 pub mod Layers
+pub mod Calls
