@@ -12,6 +12,7 @@ use Rattle.faultplan.specs.declared.entry.Phase.{Phase}
 use Rattle.faultplan.specs.declared.entry.Phase.the-variants.{Waiting, Active, Spoiled, Ended}
 use Rattle.faultplan.specs.declared.entry.Event.{Event}
 use Rattle.faultplan.specs.declared.entry.Event.the-variants.{Round, Refused, Accepted, Fresh}
+use Rattle.faultplan.specs.declared.entry.Check.{Check}
 use Rattle.faultplan.specs.declared.entry.Check.the-variants.{Present, Readable, Writable}
 use Rattle.faultplan.specs.declared.entry.Entry.{Entry}
 use Rattle.faultplan.specs.declared.plan.Plan.{Plan}
@@ -101,6 +102,40 @@ fresh-removes Unreadable f = refl
 fresh-removes Unwritable f = refl
 fresh-removes Other f = refl
 
+fresh-reads : (k : Kind) (f : Phase) → stops-reads k (next-phase Fresh k f) ≡ false
+fresh-reads Gone f = refl
+fresh-reads Unreadable Waiting = refl
+fresh-reads Unreadable Active = refl
+fresh-reads Unreadable Spoiled = refl
+fresh-reads Unreadable Ended = refl
+fresh-reads Unwritable Waiting = refl
+fresh-reads Unwritable Active = refl
+fresh-reads Unwritable Spoiled = refl
+fresh-reads Unwritable Ended = refl
+fresh-reads Other f = refl
+
+fresh-writes : (k : Kind) (f : Phase) → stops-writes k (next-phase Fresh k f) ≡ false
+fresh-writes Gone f = refl
+fresh-writes Unreadable f = refl
+fresh-writes Unwritable Waiting = refl
+fresh-writes Unwritable Active = refl
+fresh-writes Unwritable Spoiled = refl
+fresh-writes Unwritable Ended = refl
+fresh-writes Other f = refl
+
+-- nothing becomes of an entry that has ended
+ended-next : (ev : Event) (k : Kind) → next-phase ev k Ended ≡ Ended
+ended-next (Round n) k = refl
+ended-next (Refused b) Gone = refl
+ended-next (Refused b) Unreadable = refl
+ended-next (Refused b) Unwritable = refl
+ended-next (Refused b) Other = refl
+ended-next (Accepted b) Gone = refl
+ended-next (Accepted b) Unreadable = refl
+ended-next (Accepted b) Unwritable = refl
+ended-next (Accepted b) Other = refl
+ended-next Fresh k = refl
+
 -- ---- one entry, whether or not the event concerns it
 module _ (ev : Event) (e : Entry) where
   -- what holds of its phase before and after holds after it was told
@@ -170,10 +205,19 @@ module _ (p : Plan) (b : ℕ) where
       (λ (off : eqb (e .block) b ≡ false). and-right _ (eqb (e .block) b) off)
       (cases-bool (eqb (e .block) b))) (p .entries)
 
-module _ (p : Plan) where
-  pub fresh-present : failed Present (told Fresh p) ≡ false
-  fresh-present = any-none (fails Present) (after Fresh) (λ e. fresh-removes (e .kind) (e .phase)) (p .entries)
+pub ended-stays : (ev : Event) (e : Entry) → e .phase ≡ Ended → after ev e .phase ≡ Ended
+ended-stays ev e h = told-entry ev e (λ f. f ≡ Ended) (ap (next-phase ev (e .kind)) h ∙ ended-next ev (e .kind)) h
 
+-- after fresh, no entry makes a check fail
+fresh-passes : (c : Check) (e : Entry) → fails c (after Fresh e) ≡ false
+fresh-passes Present e = fresh-removes (e .kind) (e .phase)
+fresh-passes (Readable b) e = and-left _ _ (fresh-reads (e .kind) (e .phase))
+fresh-passes (Writable b) e = and-left _ _ (fresh-writes (e .kind) (e .phase))
+
+pub fresh-clears : (c : Check) (p : Plan) → failed c (told Fresh p) ≡ false
+fresh-clears c p = any-none (fails c) (after Fresh) (fresh-passes c) (p .entries)
+
+module _ (p : Plan) where
   pub advanced-gone : failed Present p ≡ true → failed Present (advanced p) ≡ true
   advanced-gone h =
       let n = p .round + 1 in

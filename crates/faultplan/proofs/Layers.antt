@@ -1,40 +1,35 @@
 -- A fault layer keeps the laws of a member over whatever keeps them below.
 use mathlib.Core.Path.{_≡_, refl, sym, ap, subst, _∙_}
-use mathlib.Core.Logic.{_⊎_, inl, inr, ⊎-elim}
+use mathlib.Core.Logic.{⊎-elim}
 use mathlib.Core.Bool.{Bool, true, false, cond, _||_}
 use mathlib.Core.List.{List}
 use Prim.Native.Nat.{ℕ, _<_, _≤_}
 use native.Mathlib.Omega.{arith}
 use lib.Dec.{eqb, ltb}
 use lib.ListN.{length}
-use Rattle.std.specs.Options.{isSome, valueOr}
+use Rattle.std.specs.Options.{isSome}
 use Rattle.std.specs.declared.option.Option.{Option}
 use Rattle.std.specs.declared.option.Option.the-variants.{Some, None}
 use Rattle.std.proofs.shelf.Tests.{cond-true, cond-false, cond-both, cases-bool, cases-eq, or-cases, or-left, or-right, or-from, false≢true, ltb-true, lt-ltb, eq-eqb, eqb-true, eqb-false}
-use Rattle.code.specs.Blocks.{Bytes, Block, block-size}
-use Rattle.member.specs.declared.Cause.{Cause}
-use Rattle.member.specs.declared.Cause.the-variants.{Gone, Unreadable, Unwritable, NoBlock, BadBuffer}
+use Rattle.code.specs.Blocks.{Block, block-size}
+use Rattle.member.specs.declared.Cause.the-variants.{Gone, Unwritable, NoBlock, BadBuffer}
 use Rattle.member.specs.Faults.{Origin, Refusal, raised, above}
-use Rattle.member.specs.Meaning.{Meaning, Sound, own, get-refusal, put-refusal, look-refusal, read-refusal, write-refusal, handed}
-use Rattle.member.specs.Changes.{Level, Kept, Taken, Spoiled, Written, Ticked, Renewed, Lawful}
+use Rattle.member.specs.Meaning.{Meaning, Sound, own, put-refusal, write-refusal}
+use Rattle.member.specs.Changes.{Kept, Taken, Spoiled, Written, Ticked, Renewed, Lawful}
 use Rattle.faultplan.specs.declared.entry.Event.the-variants.{Refused, Accepted, Fresh}
 use Rattle.faultplan.specs.declared.entry.Check.{Check}
 use Rattle.faultplan.specs.declared.entry.Check.the-variants.{Present, Readable, Writable}
 use Rattle.faultplan.specs.declared.plan.Plan.{Plan}
-use Rattle.faultplan.specs.Entries.{check-cause}
 use Rattle.faultplan.specs.Plans.{failed, told, advanced}
 use Rattle.faultplan.specs.Layers.{
   own-origin,
   layered,
   withheld,
-  only-gone,
   or-else,
   Planned,
   planned,
   layer-meaning,
   layer-seen,
-  passed,
-  stopped,
   settled,
   layer-wrote,
   layer-ticked,
@@ -49,7 +44,7 @@ use Rattle.faultplan.proofs.Events.{
   accepted-writes,
   accepted-reads,
   accepted-here,
-  fresh-present,
+  fresh-clears,
   advanced-gone,
   advanced-reads,
 }
@@ -82,31 +77,6 @@ module _ (m : Meaning) (b : ℕ) (v : List ℕ) (n : Meaning) where
 
 -- ---- what a layer answers: what it withholds, or else what is answered below
 module _ (p : Plan) (m : Meaning) (b : ℕ) where
-  get-answer : Bool → Bool → Bool → Option Refusal
-  get-answer x y g =
-      cond (x || g) (Some (raised Gone (cond x (own-origin m b) (m .gone-origin b))))
-      (cond (isSome (cond y None (m .block b))) None (Some (raised Unreadable (cond y (own-origin m b) (m .unreadable-origin b)))))
-
-  get-else : Bool → Bool → Bool → Option Refusal
-  get-else x y g =
-      or-else
-      (cond x (Some (raised Gone (own-origin m b)))
-      (cond y (Some (cond g (raised Gone (m .gone-origin b)) (raised Unreadable (own-origin m b)))) None))
-      (cond g (Some (raised Gone (m .gone-origin b)))
-      (cond (isSome (m .block b)) None (Some (raised Unreadable (m .unreadable-origin b)))))
-
-  get-cases : (x y g : Bool) → get-answer x y g ≡ get-else x y g
-  unfolding get-answer get-else
-  get-cases true y g = refl
-  get-cases false true true = refl
-  get-cases false true false = refl
-  get-cases false false true = refl
-  get-cases false false false = refl
-
-  pub layered-get : get-refusal (layered p m) b ≡ or-else (withheld p m (Readable b) b) (get-refusal m b)
-  unfolding get-answer get-else
-  layered-get = get-cases (failed Present p) (failed (Readable b) p) (m .gone)
-
   put-answer : Bool → Bool → Bool → Option Refusal
   put-answer x y g =
       cond (x || g) (Some (raised Gone (cond x (own-origin m b) (m .gone-origin b))))
@@ -128,7 +98,7 @@ module _ (p : Plan) (m : Meaning) (b : ℕ) where
   put-cases false false true = refl
   put-cases false false false = refl
 
-  pub layered-put : put-refusal (layered p m) b ≡ or-else (withheld p m (Writable b) b) (put-refusal m b)
+  layered-put : put-refusal (layered p m) b ≡ or-else (withheld p m (Writable b) b) (put-refusal m b)
   unfolding put-answer put-else
   layered-put = put-cases (failed Present p) (failed (Writable b) p) (m .gone)
 
@@ -223,8 +193,11 @@ module _ (p : Plan) (m n : Meaning) where
   renewed-layer : Renewed m n → Renewed (layered p m) (layered (told Fresh p) n)
   renewed-layer h = record {
     level = record { count = h .level .count; height = ap above (h .level .height) };
-    present = or-from _ _ (fresh-present p) (h .present);
+    present = or-from _ _ (fresh-clears Present p) (h .present);
   }
+
+pub same-planned : {S : Type 0} {s t : S} {p q : Plan} → s ≡ t → p ≡ q → planned s p ≡ planned t q
+same-planned e f = λ i. planned (e i) (f i)
 
 -- ---- what is withheld
 open-cases : (x y : Bool) (f g : Refusal) → cond x (Some f) (cond y (Some g) None) ≡ None → (x ≡ false) × (y ≡ false)
@@ -239,7 +212,7 @@ shut-cases false false f g r one e three = absurd (none≢some r e)
 
 module _ (p : Plan) (m : Meaning) (c : Check) (b : ℕ) where
   -- nothing is withheld: no own fault
-  pub withheld-none : withheld p m c b ≡ None → (failed Present p ≡ false) × (failed c p ≡ false)
+  withheld-none : withheld p m c b ≡ None → (failed Present p ≡ false) × (failed c p ≡ false)
   withheld-none e = open-cases (failed Present p) (failed c p) _ _ e
 
   -- a refusal with 3 is due to the check

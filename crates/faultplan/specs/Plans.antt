@@ -1,4 +1,5 @@
 -- The table of planned faults, and what becomes of it.
+use mathlib.Core.Path.{_≡_}
 use mathlib.Core.Bool.{Bool, true, false, cond, _||_}
 use mathlib.Core.List.{List, [], _∷_, map}
 use Prim.Native.Nat.{ℕ, _+_}
@@ -10,7 +11,7 @@ use Rattle.faultplan.specs.declared.entry.Kind.{Kind}
 use Rattle.faultplan.specs.declared.entry.Kind.the-variants.{Other}
 use Rattle.faultplan.specs.declared.entry.Phase.the-variants.{Waiting, Active, Ended}
 use Rattle.faultplan.specs.declared.entry.Event.{Event}
-use Rattle.faultplan.specs.declared.entry.Event.the-variants.{Round}
+use Rattle.faultplan.specs.declared.entry.Event.the-variants.{Round, Fresh}
 use Rattle.faultplan.specs.declared.entry.Check.{Check}
 use Rattle.faultplan.specs.declared.entry.Entry.{Entry}
 use Rattle.faultplan.specs.declared.plan.Plan.{Plan}
@@ -75,3 +76,8 @@ any p (e ∷ es) = p e || any p es
 -- whether some entry makes a check fail
 abbrev pub failed : Check → Plan → Bool
 failed c p = any (fails c) (p .entries)
+
+-- After fresh the table makes no check fail, and an entry that has ended stays so at every event.
+abbrev pub Ended-for-good : Type 0
+Ended-for-good =
+    ((c : Check) (p : Plan) → failed c (told Fresh p) ≡ false) × ((ev : Event) (e : Entry) → e .phase ≡ Ended → after ev e .phase ≡ Ended)

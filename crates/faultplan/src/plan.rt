@@ -2,7 +2,7 @@
 ghost use mathlib.Core.Path.{_≡_};
 ghost use mathlib.Core.List.{map};
 ghost use Rattle.faultplan.specs.Entries.{after, fails};
-ghost use Rattle.faultplan.specs.Plans.{plan-number, add-answer, room-answer, any, failed, empty, with-entry, told, advanced};
+ghost use Rattle.faultplan.specs.Plans.{plan-number, add-answer, room-answer, any, failed, empty, with-entry, told, advanced, Ended-for-good};
 use crate::entry::Check;
 use crate::entry::Entry;
 use crate::entry::Event;
@@ -127,4 +127,11 @@ impl Plan {
     {
         any_fails(&self.entries, check)
     }
+}
+
+// Fresh ends what is active, and what has ended stays so.
+pub fn ended_for_good() -> u8
+    ensures theorem { λ _. ⌜ Ended-for-good ⌝ }
+{
+    0
 }

@@ -51,7 +51,10 @@ impl<M: Member> FaultLayer<M> {
         ensures below { λ r. ⌜ r .below ≡ below ⌝ }
         ensures plan { λ r. ⌜ r .plan ≡ empty ⌝ }
     {
-        FaultLayer { below, plan: Plan::new() }
+        FaultLayer {
+            below,
+            plan: Plan::new(),
+        }
     }
 
     // What is below, as it is; the plan is let go.
@@ -77,9 +80,10 @@ impl<M: Member> FaultLayer<M> {
     fn own(&self, cause: Cause, block: usize) -> Fault
         ensures value { λ r. ⌜ numbers r ≡ raised cause (own-origin (M·Member .meaning (M·Member .state (now (self .entry) .below))) block) ⌝ }
     {
+        let lower = self.below.height();
         Fault {
             cause,
-            height: self.below.height().saturating_add(1),
+            height: lower.saturating_add(1),
             block,
         }
     }
@@ -123,6 +127,22 @@ impl<M: Member> FaultLayer<M> {
             _ => {}
         }
     }
+
+    // Lets time pass below, and then counts it.
+    fn advance(&mut self)
+        ensures exact { λ _. ⌜ planned (M·Member .state (now (self .exit) .below)) (now (self .exit) .plan) ≡ layer-ticked (M·Member .ticked) (planned (M·Member .state (now (self .entry) .below)) (now (self .entry) .plan)) ⌝ }
+    {
+        self.below.tick();
+        self.plan.tick();
+    }
+
+    // Ends all active entries, and renews what is below.
+    fn renew(&mut self)
+        ensures exact { λ _. ⌜ planned (M·Member .state (now (self .exit) .below)) (now (self .exit) .plan) ≡ layer-renewed (M·Member .renewed) (planned (M·Member .state (now (self .entry) .below)) (now (self .entry) .plan)) ⌝ }
+    {
+        self.plan.tell(Event::Fresh);
+        self.below.fresh();
+    }
 }
 
 pub impl<M: Member> Member for FaultLayer<M> as FaultLayerMember {
@@ -151,7 +171,7 @@ pub impl<M: Member> Member for FaultLayer<M> as FaultLayerMember {
     }
 
     fn look(&self, block: usize) -> Result<(), Fault> {
-        if block >= self.below.count() {
+        if block >= self.count() {
             return Err(self.own(Cause::NoBlock, block));
         }
         match self.withhold(Check::Readable(block), block) {
@@ -164,7 +184,7 @@ pub impl<M: Member> Member for FaultLayer<M> as FaultLayerMember {
         if buffer.len() != BLOCK {
             return Err(self.own(Cause::BadBuffer, block));
         }
-        if block >= self.below.count() {
+        if block >= self.count() {
             return Err(self.own(Cause::NoBlock, block));
         }
         match self.withhold(Check::Readable(block), block) {
@@ -177,7 +197,7 @@ pub impl<M: Member> Member for FaultLayer<M> as FaultLayerMember {
         if bytes.len() != BLOCK {
             return Err(self.own(Cause::BadBuffer, block));
         }
-        if block >= self.below.count() {
+        if block >= self.count() {
             return Err(self.own(Cause::NoBlock, block));
         }
         match self.withhold(Check::Writable(block), block) {
@@ -190,12 +210,10 @@ pub impl<M: Member> Member for FaultLayer<M> as FaultLayerMember {
     }
 
     fn tick(&mut self) {
-        self.below.tick();
-        self.plan.tick();
+        self.advance();
     }
 
     fn fresh(&mut self) {
-        self.plan.tell(Event::Fresh);
-        self.below.fresh();
+        self.renew();
     }
 }

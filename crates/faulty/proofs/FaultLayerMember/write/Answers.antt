@@ -5,8 +5,7 @@ use Rattle.std.specs.declared.option.Option.the-variants.{Some, None}
 use Rattle.member.specs.Faults.{numbers}
 use Rattle.member.specs.Changes.{Written}
 use Rattle.faultplan.specs.Layers.{planned, layer-meaning}
-use Rattle.faultplan.proofs.Layers.{layered-write, wrote-settled, layer-writes}
-use Rattle.faultplan.proofs.Calls.{same-planned}
+use Rattle.faultplan.proofs.Layers.{same-planned, layered-write, wrote-settled, layer-writes}
 use Rattle.faulty.proofs.FaultLayerMember.write.Needs as need
 
 pub returns-in-Ok : need.returns-in-Ok
