@@ -1,0 +1,3 @@
+pub mod Anys
+pub mod Events
+pub mod Layers
