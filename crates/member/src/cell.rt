@@ -6,6 +6,7 @@ ghost use lib.ListN.{length, getD};
 ghost use Rattle.member.specs.Runs.{cell-bytes, cell-sound, cell-meaning, cell-wrote, cell-zeros};
 use crate::Fault;
 use crate::Member;
+use crate::run::count_in;
 use crate::run::look_in;
 use crate::run::read_in;
 use crate::run::write_in;
@@ -49,7 +50,7 @@ pub impl Member for Cell as CellMember {
     ghost renewed = { λ _. cell-zeros };
 
     fn count(&self) -> usize {
-        BLOCKS
+        count_in(&self.bytes, BLOCKS)
     }
 
     fn height(&self) -> u8 {

@@ -2,12 +2,23 @@
 ghost use mathlib.Core.Path.{_≡_};
 ghost use Prim.Native.Nat.{ℕ, _<_};
 ghost use lib.ListN.{length, getD};
-ghost use Rattle.member.specs.Faults.{refusal};
+ghost use Rattle.member.specs.Faults.{numbers, refusal, raised as raised-from};
 ghost use Rattle.member.specs.Meaning.{look-refusal, read-refusal, write-refusal, handed};
-ghost use Rattle.member.specs.Runs.{whole-blocks, run-meaning, run-wrote};
+ghost use Rattle.member.specs.Runs.{bottom-origin, whole-blocks, run-meaning, run-wrote};
 use crate::Cause;
 use crate::Fault;
 use code::BLOCK;
+
+// A fault that a kind at the bottom raises.
+fn raised(cause: Cause, block: usize) -> Fault
+    ensures value { λ r. ⌜ numbers r ≡ raised-from cause (bottom-origin block) ⌝ }
+{
+    Fault {
+        cause,
+        height: 0,
+        block,
+    }
+}
 
 // How many blocks count.
 pub fn count_in(run: &[u8], most: usize) -> usize
@@ -20,14 +31,10 @@ pub fn count_in(run: &[u8], most: usize) -> usize
 pub fn look_in(run: &[u8], most: usize, block: usize) -> Result<(), Fault>
     ensures answered { λ r. ⌜ refusal r ≡ look-refusal (run-meaning (whole-blocks most (now (run .entry))) (now (run .entry))) block ⌝ }
 {
-    if block >= count_in(run, most) {
-        return Err(Fault {
-            cause: Cause::NoBlock,
-            height: 0,
-            block,
-        });
+    if block < count_in(run, most) {
+        return Ok(());
     }
-    Ok(())
+    Err(raised(Cause::NoBlock, block))
 }
 
 // Copies a block into the buffer.
@@ -36,21 +43,13 @@ pub fn read_in(run: &[u8], most: usize, block: usize, buffer: &mut [u8]) -> Resu
     ensures after { λ _. ⌜ now (buffer .exit) ≡ handed (run-meaning (whole-blocks most (now (run .entry))) (now (run .entry))) block (now (buffer .entry)) ⌝ }
 {
     if buffer.len() != BLOCK {
-        return Err(Fault {
-            cause: Cause::BadBuffer,
-            height: 0,
-            block,
-        });
+        return Err(raised(Cause::BadBuffer, block));
     }
     if block >= count_in(run, most) {
-        return Err(Fault {
-            cause: Cause::NoBlock,
-            height: 0,
-            block,
-        });
+        return Err(raised(Cause::NoBlock, block));
     }
-    let at = block * BLOCK;
-    buffer.copy_from_slice(&run[at..at + BLOCK]);
+    let from = block * BLOCK;
+    buffer.copy_from_slice(&run[from..from + BLOCK]);
     Ok(())
 }
 
@@ -61,21 +60,13 @@ pub fn write_in(run: &mut [u8], most: usize, block: usize, bytes: &[u8]) -> Resu
     ensures low { λ _. ⌜ (((i : ℕ) → getD (now (run .entry)) i 0 < 256) → (i : ℕ) → getD (now (run .exit)) i 0 < 256) ⌝ }
 {
     if bytes.len() != BLOCK {
-        return Err(Fault {
-            cause: Cause::BadBuffer,
-            height: 0,
-            block,
-        });
+        return Err(raised(Cause::BadBuffer, block));
     }
     if block >= count_in(run, most) {
-        return Err(Fault {
-            cause: Cause::NoBlock,
-            height: 0,
-            block,
-        });
+        return Err(raised(Cause::NoBlock, block));
     }
-    let at = block * BLOCK;
-    run[at..at + BLOCK].copy_from_slice(bytes);
+    let to = block * BLOCK;
+    run[to..to + BLOCK].copy_from_slice(bytes);
     Ok(())
 }
 
