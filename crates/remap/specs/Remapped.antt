@@ -1,7 +1,7 @@
 -- What a remap layer means, and what each call makes of it.
 use mathlib.Core.Bool.{Bool, false, cond, _||_}
-use mathlib.Core.List.{List}
-use Prim.Native.Nat.{ℕ, zero, suc, _+_, _-_, _≤_}
+use mathlib.Core.List.{List, [], _∷_}
+use Prim.Native.Nat.{ℕ, zero, suc, _+_, _-_, _≤_, min}
 use lib.Dec.{ltb}
 use lib.ListN.{length}
 use Rattle.std.specs.declared.option.Option.the-variants.{None}
@@ -48,6 +48,12 @@ pub record LayerSound {S : Type 0} (sound : S → Type 0) (x : Layer S) : Type 0
   pub below : sound (x .below)
   pub within : used (x .table) ≤ x .table .spares
 
+-- v with every number above 255 brought down to it, which leaves bytes as they are. What is below stays sound under a write of
+-- bytes, and the laws are stated for every list of numbers: so a write that is tried again goes on from one of bytes.
+abbrev pub clipped : List ℕ → List ℕ
+clipped [] = []
+clipped (x ∷ xs) = min 255 x ∷ clipped xs
+
 module _ {S : Type 0} (mean : S → Meaning) where
   abbrev pub layer-meaning : Layer S → Meaning
   layer-meaning x = remapped (x .table) (mean (x .below))
@@ -63,7 +69,7 @@ module _ {S : Type 0} (mean : S → Meaning) where
     tries first b v zero s t = layer (write s (place t first b) v) t
     tries first b v (suc n) s t =
         cond (refused-with 3 (write-refusal (mean s) (place t first b) (length v)))
-        (tries first b v n (write s (place t first b) v) (moved-on t b)) (layer (write s (place t first b) v) t)
+        (tries first b v n (write s (place t first b) (clipped v)) (moved-on t b)) (layer (write s (place t first b) v) t)
 
     abbrev pub layer-wrote : Layer S → ℕ → List ℕ → Layer S
     layer-wrote x b v = checked (layer-meaning x) b (length v) (tries (layer-meaning x .count) b v (left (x .table)) (x .below) (x .table)) x
