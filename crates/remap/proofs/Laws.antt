@@ -46,7 +46,7 @@ remapped-sound t m h = record {
   beyond = λ b l. cond-false _ _ _ (le-ltb b (own-count t m) l);
 }
 
-remapped-ticked : (t : Table) (m n : Meaning) → used t ≤ t .spares → Ticked m n → Ticked (remapped t m) (remapped t n)
+pub remapped-ticked : (t : Table) (m n : Meaning) → used t ≤ t .spares → Ticked m n → Ticked (remapped t m) (remapped t n)
 remapped-ticked t m n within h = record {
   level = record { count = ap (λ c. c - t .spares) (h .level .count); height = ap above (h .level .height) };
   gone = h .gone;

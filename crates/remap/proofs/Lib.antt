@@ -1,3 +1,4 @@
 pub mod Tables
 pub mod Tries
 pub mod Laws
+pub mod Calls

@@ -9,15 +9,21 @@ use native.Mathlib.Numerals.{add-one}
 use lib.Dec.{eqb, ltb}
 use lib.ListN.{length, getD, set}
 use lib.Seq.{getD-set-same, getD-set-other}
+use Rattle.std.specs.Options.{valueOr}
 use Rattle.std.specs.declared.option.Option.{Option}
 use Rattle.std.specs.declared.option.Option.the-variants.{Some, None}
 use Rattle.std.proofs.shelf.Tests.{cond-both, cond-true, cond-false, eqb-true, eq-eqb, ne-eqb}
-use Rattle.remap.specs.Places.{Table, newest, given, standing, place, used, moved-on}
+use Rattle.remap.specs.declared.moves.Moves.{Moves}
+use Rattle.remap.specs.Places.{Table, newest, table-of, given, standing, place, used, moved-on, next-spare}
 
 -- ---- the list of moves of an array
 pub length-newest : (xs : List ℕ) (n : ℕ) → length (newest xs n) ≡ n
 length-newest xs zero = refl
 length-newest xs (suc n) = ap suc (length-newest xs n)
+
+-- no more spares were used than there are
+pub table-within : (x : Moves) → used (table-of x) ≤ x .spares
+table-within x = omega (arith, length-newest (x .from) (x .used), x .within)
 
 -- an entry written further on changes no move before
 newest-set : (xs : List ℕ) (n b m : ℕ) → m ≤ n → newest (set xs n b) m ≡ newest xs m
@@ -30,6 +36,12 @@ newest-set xs n b (suc m) h =
 pub newest-push : (xs : List ℕ) (n b : ℕ) → n < length xs → newest (set xs n b) (n + 1) ≡ b ∷ newest xs n
 newest-push xs n b room =
     rw (add-one, getD-set-same xs n b 0 room, newest-set xs n b n (omega arith))
+
+pub given-low : (xs : List ℕ) (b : ℕ) → valueOr (given xs b) 0 ≤ length xs
+given-low [] b = omega arith
+given-low (x ∷ xs) b =
+    cond-both (eqb x b) (Some (length xs)) (given xs b) (λ o. valueOr o 0 ≤ suc (length xs)) (λ e. omega arith)
+    (λ e. let ih = given-low xs b in omega arith)
 
 -- ---- places
 -- the block that used spare i was given to
@@ -83,3 +95,19 @@ module _ (t : Table) (first : ℕ) where
 
   pub moved-other : (b k : ℕ) → (k ≡ b → ⊥) → place (moved-on t b) first k ≡ place t first k
   moved-other b k ne = ap (standing first k) (cond-false _ _ _ (ne-eqb b k (λ e. ne (sym e))))
+
+-- ---- the next spare
+none-cond : (more : Bool) (i : ℕ) → None ≡ cond more (Some i) None → more ≡ false
+none-cond true i e = let z : _≡_ {A = ℕ} 0 1 = cc in absurd (omega arith)
+none-cond false i e = refl
+
+some-cond : (more : Bool) (i j : ℕ) → Some j ≡ cond more (Some i) None → (more ≡ true) × (j ≡ i)
+some-cond true i j e = (refl, cc)
+some-cond false i j e = let z : _≡_ {A = ℕ} 0 1 = cc in absurd (omega arith)
+
+module _ (t : Table) where
+  pub none-left : None ≡ next-spare t → ltb (used t) (t .spares) ≡ false
+  none-left e = none-cond (ltb (used t) (t .spares)) (used t) e
+
+  pub some-left : (i : ℕ) → Some i ≡ next-spare t → (ltb (used t) (t .spares) ≡ true) × (i ≡ used t)
+  some-left i e = some-cond (ltb (used t) (t .spares)) (used t) i e

@@ -293,6 +293,15 @@ answer-stays false false spare o p q e = absurd (true≢false e)
 
 -- ---- all tries
 module _ {S : Type 0} (mean : S → Meaning) (write : S → ℕ → List ℕ → S) (first b : ℕ) (v : List ℕ) where
+  -- The layer was s and t when the write began, and is x and u before the next try: it ends as it would have from the start.
+  pub record Trying (s : S) (t : Table) (x : S) (u : Table) : Type 0 where
+    pub same : tries mean write first b v (left u) x u ≡ tries mean write first b v (left t) s t
+    pub answer : put-refusal (remap-at u first (mean x)) b ≡ put-refusal (remap-at t first (mean s)) b
+    pub room : first + u .spares ≤ mean x .count
+
+  pub trying-none : (s : S) (t : Table) → first + t .spares ≤ mean s .count → Trying s t s t
+  trying-none s t room = record { same = refl; answer = refl; room = room }
+
   tries-end : (n : ℕ) (s : S) (t : Table) → refused-with 3 (write-refusal (mean s) (place t first b) (length v)) ≡ false
       → layer (write s (place t first b) v) t ≡ tries mean write first b v n s t
   tries-end zero s t e = refl
@@ -370,16 +379,7 @@ module _ {S : Type 0} (sound : S → Type 0) (mean : S → Meaning) (see : S →
       (λ e. record { below = law .wrote-sound s (place t first b) v ok low; within = omega arith })
 
   -- ---- a loop over the tries
-  -- The layer was s and t when the write began, and is x and u before the next try: it ends as it would have from the start.
-  pub record Trying (s : S) (t : Table) (x : S) (u : Table) : Type 0 where
-    pub same : tries mean write first b v (left u) x u ≡ tries mean write first b v (left t) s t
-    pub answer : put-refusal (remap-at u first (mean x)) b ≡ put-refusal (remap-at t first (mean s)) b
-    pub room : first + u .spares ≤ mean x .count
-
-  pub trying-none : (s : S) (t : Table) → first + t .spares ≤ mean s .count → Trying s t s t
-  trying-none s t room = record { same = refl; answer = refl; room = room }
-
-  module _ (s : S) (t : Table) (x : S) (u : Table) (ok : sound x) (within : used u ≤ u .spares) (h : Trying s t x u) where
+  module _ (s : S) (t : Table) (x : S) (u : Table) (ok : sound x) (within : used u ≤ u .spares) (h : Trying mean write first b v s t x u) where
     -- a try that is not refused with 3 gives the layer's answer
     pub trying-all : refused-with 3 (write-refusal (mean x) (place u first b) (length v)) ≡ false
         → (write-refusal (mean x) (place u first b) (length v) ≡ put-refusal (remap-at t first (mean s)) b)
@@ -411,7 +411,7 @@ module _ {S : Type 0} (sound : S → Type 0) (mean : S → Meaning) (see : S →
 
     -- with a spare left, that is tried next
     pub trying-more : refused-with 3 (write-refusal (mean x) (place u first b) (length v)) ≡ true → used u < u .spares
-        → ((i : ℕ) → getD v i 0 < 256) → Trying s t (write x (place u first b) v) (moved-on u b)
+        → ((i : ℕ) → getD v i 0 < 256) → Trying mean write first b v s t (write x (place u first b) v) (moved-on u b)
     trying-more e more low = record {
       same =
           ap (λ w. tries mean write first b v (left (moved-on u b)) (write x (place u first b) w) (moved-on u b)) (sym (clipped-same v low))

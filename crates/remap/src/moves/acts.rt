@@ -1,8 +1,8 @@
 // What the table answers, and how it changes.
 ghost use mathlib.Core.Path.{_≡_};
-ghost use Prim.Native.Nat.{ℕ, _≤_, _<_, min};
-ghost use Rattle.std.specs.declared.option.Option.the-variants.{Some};
-ghost use Rattle.remap.specs.Places.{table-of, newest, unmoved, given, next-spare, spare-taken, used};
+ghost use Prim.Native.Nat.{_≤_, min};
+ghost use Rattle.std.specs.Options.{valueOr};
+ghost use Rattle.remap.specs.Places.{table-of, unmoved, given, next-spare, spare-taken};
 use crate::moves::MOST_SPARES;
 use crate::moves::Moves;
 
@@ -29,6 +29,7 @@ impl Moves {
     // The spare that the block was moved to last.
     pub fn given(&self, block: usize) -> Option<usize>
         ensures value { λ r. ⌜ r ≡ given (table-of (now (self .entry)) .moves) block ⌝ }
+        ensures few { λ r. ⌜ valueOr r 0 ≤ 16 ⌝ }
     {
         let mut spare = None;
         for i in 0..self.used {
