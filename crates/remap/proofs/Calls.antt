@@ -36,8 +36,8 @@ module _ (t : Table) (m : Meaning) (within : used t ≤ t .spares) (b first : �
     get-through =
         ap (get-refusal m) stands-at
         ∙ ap (λ o. cond (m .gone) (Some (raised Gone (m .gone-origin (place t (own-count t m) b))))
-             (cond (isSome o) None (Some (raised Unreadable (m .unreadable-origin (place t (own-count t m) b))))))
-          (sym (block-in t (own-count t m) m b known))
+        (cond (isSome o) None (Some (raised Unreadable (m .unreadable-origin (place t (own-count t m) b))))))
+        (sym (block-in t (own-count t m) m b known))
 
     pub look-through : look-refusal m at ≡ look-refusal (remapped t m) b
     look-through = good-look m at under ∙ get-through ∙ sym (good-look (remapped t m) b known)
@@ -58,11 +58,11 @@ module _ {S : Type 0} (mean : S → Meaning) (s : S) (t : Table) (within : used 
   seen-through see at n ea e =
       ap (λ p. layer (see s p n) t) (stands-at t (mean s) within b first ef there at ea)
       ∙ sym (good-checked (remapped t (mean s)) b (known t (mean s) within b first ef there) n
-             (layer (see s (place t (own-count t (mean s)) b) n) t) (layer s t) e)
+      (layer (see s (place t (own-count t (mean s)) b) n) t) (layer s t) e)
 
   pub wrote-through : (write : S → ℕ → List ℕ → S) (v : List ℕ) → length v ≡ 512
       → tries mean write first b v (left t) s t ≡ layer-wrote mean write (layer s t) b v
   wrote-through write v e =
       ap (λ k. tries mean write k b v (left t) s t) ef
       ∙ sym (good-checked (remapped t (mean s)) b (known t (mean s) within b first ef there) (length v)
-             (tries mean write (own-count t (mean s)) b v (left t) s t) (layer s t) e)
+      (tries mean write (own-count t (mean s)) b v (left t) s t) (layer s t) e)

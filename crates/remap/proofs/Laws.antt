@@ -39,10 +39,10 @@ remapped-sound t m h = record {
   few = omega (arith, h .few);
   low = omega arith;
   sized = λ b v e.
-    ⊎-elim
-    (λ (l : ltb b (own-count t m) ≡ true). h .sized (place t (own-count t m) b) v (sym (cond-true _ _ _ l) ∙ e))
-    (λ (l : ltb b (own-count t m) ≡ false). absurd (none≢block v (sym (cond-false _ _ _ l) ∙ e)))
-    (cases-bool (ltb b (own-count t m)));
+      ⊎-elim
+      (λ (l : ltb b (own-count t m) ≡ true). h .sized (place t (own-count t m) b) v (sym (cond-true _ _ _ l) ∙ e))
+      (λ (l : ltb b (own-count t m) ≡ false). absurd (none≢block v (sym (cond-false _ _ _ l) ∙ e)))
+      (cases-bool (ltb b (own-count t m)));
   beyond = λ b l. cond-false _ _ _ (le-ltb b (own-count t m) l);
 }
 
@@ -51,10 +51,10 @@ remapped-ticked t m n within h = record {
   level = record { count = ap (λ c. c - t .spares) (h .level .count); height = ap above (h .level .height) };
   gone = h .gone;
   blocks = λ k v lt e.
-    let first = own-count t m in
-    let f : remap-at t first n .block k ≡ Some v = subst (λ c. remap-at t (c - t .spares) n .block k ≡ Some v) (h .level .count) e in
-    block-in t first m k lt
-    ∙ h .blocks (place t first k) v (inside t first m within (omega arith) k lt) (sym (block-in t first n k lt) ∙ f);
+      let first = own-count t m in
+      let f : remap-at t first n .block k ≡ Some v = subst (λ c. remap-at t (c - t .spares) n .block k ≡ Some v) (h .level .count) e in
+      block-in t first m k lt
+      ∙ h .blocks (place t first k) v (inside t first m within (omega arith) k lt) (sym (block-in t first n k lt) ∙ f);
 }
 
 remapped-renewed : (t u : Table) (m n : Meaning) → u .spares ≡ t .spares → Renewed m n → Renewed (remapped t m) (remapped u n)
@@ -81,30 +81,30 @@ module _ {S : Type 0} (sound : S → Type 0) (mean : S → Meaning) (see : S →
       let y = tries mean write first b v (left t) (x .below) t in
       checked-written (layer-meaning mean) x y b v
       (λ sized there.
-        let e = ends sound mean see write tick renew law first b v sized there (left t) (x .below) t (ok .below) (omega (arith, ok .within)) (omega arith) in
-        let same : first ≡ own-count (y .table) (mean (y .below)) = omega (arith, e .count, e .spares) in
-        subst (λ k. Outcome (layer-meaning mean x) b v (remap-at (y .table) k (mean (y .below)))) same (e .outcome))
+      let e = ends sound mean see write tick renew law first b v sized there (left t) (x .below) t (ok .below) (omega (arith, ok .within)) (omega arith) in
+      let same : first ≡ own-count (y .table) (mean (y .below)) = omega (arith, e .count, e .spares) in
+      subst (λ k. Outcome (layer-meaning mean x) b v (remap-at (y .table) k (mean (y .below)))) same (e .outcome))
 
   pub layer-lawful : Lawful (LayerSound sound) (layer-meaning mean) (layer-seen mean see) (layer-wrote mean write) (layer-ticked tick) (layer-renewed renew)
   layer-lawful = record {
     means = λ x ok. remapped-sound (x .table) (mean (x .below)) (law .means (x .below) (ok .below));
     sees = λ x b n ok.
-      checked-holds (λ y. layer-meaning mean y ≡ layer-meaning mean x) (layer-meaning mean x) b n
-      (layer (see (x .below) (place (x .table) (layer-meaning mean x .count) b) n) (x .table)) x
-      (λ e l. ap (remapped (x .table)) (law .sees (x .below) (place (x .table) (layer-meaning mean x .count) b) n (ok .below))) refl;
+        checked-holds (λ y. layer-meaning mean y ≡ layer-meaning mean x) (layer-meaning mean x) b n
+        (layer (see (x .below) (place (x .table) (layer-meaning mean x .count) b) n) (x .table)) x
+        (λ e l. ap (remapped (x .table)) (law .sees (x .below) (place (x .table) (layer-meaning mean x .count) b) n (ok .below))) refl;
     writes = layer-writes;
     ticks = λ x ok. remapped-ticked (x .table) (mean (x .below)) (mean (tick (x .below))) (ok .within) (law .ticks (x .below) (ok .below));
     renews = λ x ok.
-      remapped-renewed (x .table) (unmoved (x .table .spares)) (mean (x .below)) (mean (renew (x .below))) refl (law .renews (x .below) (ok .below));
+        remapped-renewed (x .table) (unmoved (x .table .spares)) (mean (x .below)) (mean (renew (x .below))) refl (law .renews (x .below) (ok .below));
     seen-sound = λ x b n ok.
-      checked-holds (LayerSound sound) (layer-meaning mean x) b n
-      (layer (see (x .below) (place (x .table) (layer-meaning mean x .count) b) n) (x .table)) x
-      (λ e l. record { below = law .seen-sound (x .below) (place (x .table) (layer-meaning mean x .count) b) n (ok .below); within = ok .within }) ok;
+        checked-holds (LayerSound sound) (layer-meaning mean x) b n
+        (layer (see (x .below) (place (x .table) (layer-meaning mean x .count) b) n) (x .table)) x
+        (λ e l. record { below = law .seen-sound (x .below) (place (x .table) (layer-meaning mean x .count) b) n (ok .below); within = ok .within }) ok;
     wrote-sound = λ x b v ok low.
-      checked-holds (LayerSound sound) (layer-meaning mean x) b (length v)
-      (tries mean write (layer-meaning mean x .count) b v (left (x .table)) (x .below) (x .table)) x
-      (λ e l. tries-sound sound mean see write tick renew law (layer-meaning mean x .count) b v e l low (left (x .table)) (x .below) (x .table) (ok .below) (omega (arith, ok .within)))
-      ok;
+        checked-holds (LayerSound sound) (layer-meaning mean x) b (length v)
+        (tries mean write (layer-meaning mean x .count) b v (left (x .table)) (x .below) (x .table)) x
+        (λ e l. tries-sound sound mean see write tick renew law (layer-meaning mean x .count) b v e l low (left (x .table)) (x .below) (x .table) (ok .below) (omega (arith, ok .within)))
+        ok;
     ticked-sound = λ x ok. record { below = law .ticked-sound (x .below) (ok .below); within = ok .within };
     renewed-sound = λ x ok. record { below = law .renewed-sound (x .below) (ok .below); within = omega arith };
   }

@@ -70,10 +70,10 @@ module _ (t : Table) (first : ℕ) (m n : Meaning) (b : ℕ) (within : used t �
     here = block-in t first n b hb ∙ h .here;
     others = others-in (h .level .height) (h .others);
     costs = λ k lt e.
-      ⊎-elim (λ a. or-left _ _ (h .costs (place t first k) (down k lt) a))
-      (λ a. or-right (m .writable (place t first k)) _
-      (any-less (n .writable) (m .writable) (first + used t) (left t) (λ j l. h .costs j (omega arith)) a))
-      (or-cases (n .writable (place t first k)) _ e);
+        ⊎-elim (λ a. or-left _ _ (h .costs (place t first k) (down k lt) a))
+        (λ a. or-right (m .writable (place t first k)) _
+        (any-less (n .writable) (m .writable) (first + used t) (left t) (λ j l. h .costs j (omega arith)) a))
+        (or-cases (n .writable (place t first k)) _ e);
   }
 
   -- refused below with 3: writability is as it was
@@ -81,7 +81,7 @@ module _ (t : Table) (first : ℕ) (m n : Meaning) (b : ℕ) (within : used t �
   writable-in h k lt =
       ap (λ x. x || any-from (n .writable) (first + used t) (left t)) (h .writable (place t first k) (down k lt))
       ∙ ap (λ x. m .writable (place t first k) || x)
-        (any-same (n .writable) (m .writable) (first + used t) (left t) (λ j l. h .writable j (omega arith)))
+      (any-same (n .writable) (m .writable) (first + used t) (left t) (λ j l. h .writable j (omega arith)))
 
   spoiled-in : Spoiled m (place t first b) n → Spoiled (remap-at t first m) b (remap-at t first n)
   spoiled-in h = record {
@@ -121,23 +121,23 @@ passed-outcome r n o b v p (gone-way e same) = absurd (true≢false (sym e ∙ p
 passed-outcome r n o b v p (taken-way e w h) =
     taken-way (p .present) (sym (p .alike) ∙ w)
     (record {
-       level = level-on r n o (p .level) (h .level);
-       gone = h .gone ∙ p .gone;
-       here = h .here;
-       others = λ k lt ne. kept-on r n o k (p .others k lt ne) (h .others k (omega (arith, p .level .count)) ne);
-       costs = λ k lt c. p .costs k lt (h .costs k (omega (arith, p .level .count)) c);
-     })
+      level = level-on r n o (p .level) (h .level);
+      gone = h .gone ∙ p .gone;
+      here = h .here;
+      others = λ k lt ne. kept-on r n o k (p .others k lt ne) (h .others k (omega (arith, p .level .count)) ne);
+      costs = λ k lt c. p .costs k lt (h .costs k (omega (arith, p .level .count)) c);
+    })
 passed-outcome r n o b v p (spoiled-way e w h) =
     let shut : r .writable b ≡ false = sym (p .alike) ∙ w in
     spoiled-way (p .present) shut
     (record {
-       level = level-on r n o (p .level) (h .level);
-       gone = h .gone ∙ p .gone;
-       here = h .here;
-       again = h .again ∙ p .again;
-       others = λ k lt ne. kept-on r n o k (p .others k lt ne) (h .others k (omega (arith, p .level .count)) ne);
-       writable = λ k lt. h .writable k (omega (arith, p .level .count)) ∙ p .shut shut k lt;
-     })
+      level = level-on r n o (p .level) (h .level);
+      gone = h .gone ∙ p .gone;
+      here = h .here;
+      again = h .again ∙ p .again;
+      others = λ k lt ne. kept-on r n o k (p .others k lt ne) (h .others k (omega (arith, p .level .count)) ne);
+      writable = λ k lt. h .writable k (omega (arith, p .level .count)) ∙ p .shut shut k lt;
+    })
 
 -- so the layer answers the same
 passed-refusal : (r n : Meaning) (b : ℕ) → Passed r b n → put-refusal n b ≡ put-refusal r b
@@ -207,22 +207,22 @@ module _ (t : Table) (first : ℕ) (m n : Meaning) (b : ℕ) (more : used t < t 
     others = moved-kept;
     alike = here-alike;
     costs = λ k lt e.
-      ⊎-elim
-      (λ (q : k ≡ b). subst (λ j. remap-at t first m .writable j ≡ true) (sym q)
+        ⊎-elim
+        (λ (q : k ≡ b). subst (λ j. remap-at t first m .writable j ≡ true) (sym q)
         (sym here-alike ∙ subst (λ j. remap-at (moved-on t b) first n .writable j ≡ true) q e))
-      (λ (q : k ≡ b → ⊥).
+        (λ (q : k ≡ b → ⊥).
         old k ∙
         ⊎-elim (λ a. or-left (m .writable (place t first k)) _ a)
         (λ a. or-right (m .writable (place t first k)) _ (or-right spare (rest (m .writable)) a))
         (or-cases (m .writable (place t first k)) (rest (m .writable)) (sym (new-other k lt q) ∙ e)))
-      (cases-eq k b);
+        (cases-eq k b);
     shut = λ e k lt.
-      ⊎-elim
-      (λ (q : k ≡ b). subst (λ j. remap-at (moved-on t b) first n .writable j ≡ remap-at t first m .writable j) (sym q) here-alike)
-      (λ (q : k ≡ b → ⊥).
+        ⊎-elim
+        (λ (q : k ≡ b). subst (λ j. remap-at (moved-on t b) first n .writable j ≡ remap-at t first m .writable j) (sym q) here-alike)
+        (λ (q : k ≡ b → ⊥).
         let s : spare ≡ false = or-parts spare (rest (m .writable)) (sym new-here ∙ here-alike ∙ e) .0 in
         new-other k lt q ∙ sym (old k ∙ ap (λ x. m .writable (place t first k) || (x || rest (m .writable))) s))
-      (cases-eq k b);
+        (cases-eq k b);
   }
 
 -- ---- lists of numbers as bytes
@@ -286,7 +286,7 @@ stop-outcome t first m n b v within room hb last (spoiled-way e w h) =
 answer-stays : (gone writable spare : Bool) (o p q : Origin)
     → refused-with 3 (cond gone (Some (raised Gone o)) (cond writable None (Some (raised Unwritable p)))) ≡ false
     → cond gone (Some (raised Gone o)) (cond writable None (Some (raised Unwritable p)))
-      ≡ cond gone (Some (raised Gone o)) (cond (writable || spare) None (Some (raised Unwritable q)))
+    ≡ cond gone (Some (raised Gone o)) (cond (writable || spare) None (Some (raised Unwritable q)))
 answer-stays true writable spare o p q e = refl
 answer-stays false true spare o p q e = refl
 answer-stays false false spare o p q e = absurd (true≢false e)
@@ -357,16 +357,16 @@ module _ {S : Type 0} (sound : S → Type 0) (mean : S → Meaning) (see : S →
       (tries mean write first b v n (write s p (clipped v)) (moved-on t b)) (layer (write s p v) t)
       (Ended mean first b v (remap-at t first (mean s)) (mean s .count) (t .spares))
       (λ yes3.
-        let next = write s p (clipped v) in
-        let same : mean next .count ≡ mean s .count = spoils s t ok within room more (clipped v) lw yes3 .level .count in
-        let ih = ends n next (moved-on t b) (law .wrote-sound s p (clipped v) ok (bytes-clipped v)) (omega arith) (omega arith) in
-        record {
-          outcome = passed-outcome (remap-at t first (mean s)) (remap-at (moved-on t b) first (mean next)) _ b v (passes s t ok within room more (clipped v) lw yes3) (ih .outcome);
-          count = ih .count ∙ same;
-          spares = ih .spares;
-        })
+      let next = write s p (clipped v) in
+      let same : mean next .count ≡ mean s .count = spoils s t ok within room more (clipped v) lw yes3 .level .count in
+      let ih = ends n next (moved-on t b) (law .wrote-sound s p (clipped v) ok (bytes-clipped v)) (omega arith) (omega arith) in
+      record {
+        outcome = passed-outcome (remap-at t first (mean s)) (remap-at (moved-on t b) first (mean next)) _ b v (passes s t ok within room more (clipped v) lw yes3) (ih .outcome);
+        count = ih .count ∙ same;
+        spares = ih .spares;
+      })
       (λ not3. stopped s t ok within room
-        (λ e w. absurd (false≢true (sym not3 ∙ shut-refused (mean s) p (length v) sized (there s t ok within room) e w))))
+      (λ e w. absurd (false≢true (sym not3 ∙ shut-refused (mean s) p (length v) sized (there s t ok within room) e w))))
 
   -- a layer on which the tries end is sound
   pub tries-sound : Bytes (length v) v → (n : ℕ) (s : S) (t : Table) → sound s → used t + n ≡ t .spares → LayerSound sound (tries mean write first b v n s t)
@@ -383,31 +383,33 @@ module _ {S : Type 0} (sound : S → Type 0) (mean : S → Meaning) (see : S →
     -- a try that is not refused with 3 gives the layer's answer
     pub trying-all : refused-with 3 (write-refusal (mean x) (place u first b) (length v)) ≡ false
         → (write-refusal (mean x) (place u first b) (length v) ≡ put-refusal (remap-at t first (mean s)) b)
-          × (layer (write x (place u first b) v) u ≡ tries mean write first b v (left t) s t)
+        × (layer (write x (place u first b) v) u ≡ tries mean write first b v (left t) s t)
     trying-all e =
-        let good = good-write (mean x) (place u first b) (there x u ok within (h .room)) (length v) sized in
-        (good
-         ∙ answer-stays (mean x .gone) (mean x .writable (place u first b)) (any-from (mean x .writable) (first + used u) (left u))
-           (mean x .gone-origin (place u first b)) (mean x .unwritable-origin (place u first b)) (remap-at u first (mean x) .unwritable-origin b)
-           (ap (refused-with 3) (sym good) ∙ e)
-         ∙ h .answer,
-         tries-end mean write first b v (left u) x u e ∙ h .same)
+        let good = good-write (mean x) (place u first b) (there x u ok within (h .room)) (length v) sized in (
+          good
+              ∙ answer-stays (mean x .gone) (mean x .writable (place u first b)) (any-from (mean x .writable) (first + used u) (left u))
+              (mean x .gone-origin (place u first b)) (mean x .unwritable-origin (place u first b)) (remap-at u first (mean x) .unwritable-origin b)
+              (ap (refused-with 3) (sym good) ∙ e)
+              ∙ h .answer,
+          tries-end mean write first b v (left u) x u e ∙ h .same,
+        )
 
     -- one that is, with no spare left, is answered by the layer's own fault
     pub trying-spent : refused-with 3 (write-refusal (mean x) (place u first b) (length v)) ≡ true → left u ≡ 0
         → (Some (own (remap-at u first (mean (write x (place u first b) v))) Unwritable b) ≡ put-refusal (remap-at t first (mean s)) b)
-          × (layer (write x (place u first b) v) u ≡ tries mean write first b v (left t) s t)
+        × (layer (write x (place u first b) v) u ≡ tries mean write first b v (left t) s t)
     trying-spent e none =
         let q = refused-shut (mean x) (place u first b) (length v) sized (there x u ok within (h .room)) e in
         let n = mean (write x (place u first b) v) in
         let high : n .height ≡ mean x .height =
-          spoiled-of (mean x) (place u first b) v n (q .0) (q .1) (way x u ok within (h .room) v sized) .level .height in
-        (ap (λ k. Some (raised Unwritable (record { height = above k; block = b }))) high
-         ∙ sym
-           (cond-false _ _ _ (q .0)
-            ∙ cond-false _ _ _ (or-from _ _ (q .1) (ap (any-from (mean x .writable) (first + used u)) none)))
-         ∙ h .answer,
-         ap (λ k. tries mean write first b v k x u) (sym none) ∙ h .same)
+        spoiled-of (mean x) (place u first b) v n (q .0) (q .1) (way x u ok within (h .room) v sized) .level .height in (
+          ap (λ k. Some (raised Unwritable (record { height = above k; block = b }))) high
+              ∙ sym
+              (cond-false _ _ _ (q .0)
+              ∙ cond-false _ _ _ (or-from _ _ (q .1) (ap (any-from (mean x .writable) (first + used u)) none)))
+              ∙ h .answer,
+          ap (λ k. tries mean write first b v k x u) (sym none) ∙ h .same,
+        )
 
     -- with a spare left, that is tried next
     pub trying-more : refused-with 3 (write-refusal (mean x) (place u first b) (length v)) ≡ true → used u < u .spares
@@ -419,10 +421,10 @@ module _ {S : Type 0} (sound : S → Type 0) (mean : S → Meaning) (see : S →
           ∙ h .same;
       answer =
           passed-refusal (remap-at u first (mean x)) (remap-at (moved-on u b) first (mean (write x (place u first b) v))) b
-            (passes x u ok within (h .room) more v sized e)
+          (passes x u ok within (h .room) more v sized e)
           ∙ h .answer;
       room =
           let same : mean (write x (place u first b) v) .count ≡ mean x .count =
-            spoils x u ok within (h .room) more v sized e .level .count in
+          spoils x u ok within (h .room) more v sized e .level .count in
           omega (arith, h .room);
     }

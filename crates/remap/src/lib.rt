@@ -9,12 +9,12 @@ ghost use Rattle.member.specs.Faults.{refusal};
 ghost use Rattle.member.specs.Meaning.{most-blocks, own, put-refusal};
 ghost use Rattle.remap.specs.Places.{table-of, unmoved, kept-back, place, left};
 ghost use Rattle.remap.specs.Remapped.{remap-at, remapped, own-count, Layer, layer, LayerSound, layer-meaning, layer-seen, layer-wrote, layer-ticked, layer-renewed, tries};
+use crate::moves::Moves;
 use code::BLOCK;
 use member::Cause;
 use member::Fault;
 use member::Member;
 use member::refused_with;
-use crate::moves::Moves;
 
 mod moves;
 

@@ -8,7 +8,7 @@ abbrev pub Inv-loop-answer : given.InvT-loop-answer
 Inv-loop-answer g l =
     (l .at ≡ place (table-of (l .self .moves)) (l .first) (l .block))
     × Trying (g .M·Member .meaning) (g .M·Member .wrote) (l .first) (l .block) (l .bytes) (g .M·Member .state (l .entry .self .below))
-      (table-of (l .entry .self .moves)) (g .M·Member .state (l .self .below)) (table-of (l .self .moves))
+    (table-of (l .entry .self .moves)) (g .M·Member .state (l .self .below)) (table-of (l .self .moves))
 
 abbrev pub μ-loop-answer : given.MeasureT-loop-answer
 μ-loop-answer g l = left (table-of (l .self .moves))

@@ -11,5 +11,5 @@ returns g c =
       answered =
           c .look .ensures .answered
           ∙ look-through (table-of (s .moves)) (g .M·Member .meaning (g .M·Member .state (s .below))) (table-within (s .moves)) (c .args .block)
-            (c .first-first .result) (c .first-first .ensures .value) (c .if-block-first .left) (c .place-at .result) (c .place-at .ensures .value);
+          (c .first-first .result) (c .first-first .ensures .value) (c .if-block-first .left) (c .place-at .result) (c .place-at .ensures .value);
     }

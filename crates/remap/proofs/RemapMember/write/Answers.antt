@@ -23,12 +23,12 @@ returns g c =
     let sized = c .if-bytes-ne-BLOCK .left in
     let end = layer (M .state (c .put .last .self .below)) (table-of (c .put .last .self .moves)) in
     let exact : end ≡ layer-wrote (M .meaning) (M .wrote) (layer x t) b v =
-      c .put .ensures .exact ∙ wrote-through (M .meaning) x t within b first ef there (M .wrote) v sized in
+    c .put .ensures .exact ∙ wrote-through (M .meaning) x t within b first ef there (M .wrote) v sized in
     record {
       answered = c .put .ensures .answered ∙ write-through t (M .meaning x) within b first ef there (length v) sized;
       exact = exact;
       after =
           subst (λ y. Written (layer-meaning (M .meaning) (layer x t)) b v (layer-meaning (M .meaning) y)) (sym exact)
           (layer-writes (M .sound) (M .meaning) (M .seen) (M .wrote) (M .ticked) (M .renewed) (g .M·Member·met .lawful) (layer x t) b v
-           (record { below = g .M·Member·met .holds (s .below); within = within }));
+          (record { below = g .M·Member·met .holds (s .below); within = within }));
     }

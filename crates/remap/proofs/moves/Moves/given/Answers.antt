@@ -14,21 +14,27 @@ pub loop-i-again : need.loop-i-again
 loop-i-again c =
     rw add-one
     (elim (c .if-self-i .came) [
-       then-self-i w ↦
-         w .spare-is ∙ ap Some (sym (length-newest (c .args .self .now .from) (c .loop-i .i)))
-         ∙ sym (cond-true _ _ _ (eq-eqb _ _ (w .if-self-i .taken)))
-     | else-self-i w ↦ w .spare-is ∙ c .loop-i .inv ∙ sym (cond-false _ _ _ (ne-eqb _ _ (w .if-self-i .left))) ])
+      | then-self-i w ↦
+          w .spare-is ∙ ap Some (sym (length-newest (c .args .self .now .from) (c .loop-i .i)))
+          ∙ sym (cond-true _ _ _ (eq-eqb _ _ (w .if-self-i .taken)))
+      | else-self-i w ↦ w .spare-is ∙ c .loop-i .inv ∙ sym (cond-false _ _ _ (ne-eqb _ _ (w .if-self-i .left)))
+    ])
 
 pub returns : need.returns
 returns c =
     let x = c .args .self .now in
     let end : c .loop-i .i ≡ x .used = omega arith in
     let found : c .loop-i .spare ≡ given (newest (x .from) (x .used)) (c .args .block) =
-      c .loop-i .inv ∙ ap (λ n. given (newest (x .from) n) (c .args .block)) end in
+    c .loop-i .inv ∙ ap (λ n. given (newest (x .from) n) (c .args .block)) end in
     record {
       value = found;
       few =
-          omega
-          (arith, given-low (newest (x .from) (x .used)) (c .args .block), length-newest (x .from) (x .used), ap (λ o. valueOr o 0) found,
-           x .within, x .few);
+          omega (
+            arith,
+            given-low (newest (x .from) (x .used)) (c .args .block),
+            length-newest (x .from) (x .used),
+            ap (λ o. valueOr o 0) found,
+            x .within,
+            x .few,
+          );
     }
