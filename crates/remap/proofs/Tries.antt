@@ -235,7 +235,7 @@ low-clipped [] i = lit< tt
 low-clipped (x ∷ xs) zero = omega arith
 low-clipped (x ∷ xs) (suc i) = low-clipped xs i
 
-bytes-clipped : (v : List ℕ) → Bytes (length (clipped v)) (clipped v)
+pub bytes-clipped : (v : List ℕ) → Bytes (length (clipped v)) (clipped v)
 bytes-clipped v = record { long = refl; bytes = low-clipped v }
 
 pub clipped-same : (v : List ℕ) → ((i : ℕ) → getD v i 0 < 256) → clipped v ≡ v
@@ -260,7 +260,7 @@ module _ (m : Meaning) (p n : ℕ) (sized : n ≡ 512) (there : p < m .count) wh
   pub refused-shut : refused-with 3 (write-refusal m p n) ≡ true → (m .gone ≡ false) × (m .writable p ≡ false)
   refused-shut e = three (m .gone) (m .writable p) (m .gone-origin p) (m .unwritable-origin p) (ap (refused-with 3) (sym (good-write m p there n sized)) ∙ e)
 
-  shut-refused : m .gone ≡ false → m .writable p ≡ false → refused-with 3 (write-refusal m p n) ≡ true
+  pub shut-refused : m .gone ≡ false → m .writable p ≡ false → refused-with 3 (write-refusal m p n) ≡ true
   shut-refused e w = ap (refused-with 3) (good-write m p there n sized) ∙ is-three (m .gone) (m .writable p) (m .gone-origin p) (m .unwritable-origin p) e w
 
 pub outcome-count : (m : Meaning) (p : ℕ) (v : List ℕ) (n : Meaning) → Outcome m p v n → n .count ≡ m .count
@@ -302,12 +302,12 @@ module _ {S : Type 0} (mean : S → Meaning) (write : S → ℕ → List ℕ →
   pub trying-none : (s : S) (t : Table) → first + t .spares ≤ mean s .count → Trying s t s t
   trying-none s t room = record { same = refl; answer = refl; room = room }
 
-  tries-end : (n : ℕ) (s : S) (t : Table) → refused-with 3 (write-refusal (mean s) (place t first b) (length v)) ≡ false
+  pub tries-end : (n : ℕ) (s : S) (t : Table) → refused-with 3 (write-refusal (mean s) (place t first b) (length v)) ≡ false
       → layer (write s (place t first b) v) t ≡ tries mean write first b v n s t
   tries-end zero s t e = refl
   tries-end (suc n) s t e = sym (cond-false _ _ _ e)
 
-  tries-next : (n k : ℕ) (s : S) (t : Table) → n ≡ suc k → refused-with 3 (write-refusal (mean s) (place t first b) (length v)) ≡ true
+  pub tries-next : (n k : ℕ) (s : S) (t : Table) → n ≡ suc k → refused-with 3 (write-refusal (mean s) (place t first b) (length v)) ≡ true
       → tries mean write first b v k (write s (place t first b) (clipped v)) (moved-on t b) ≡ tries mean write first b v n s t
   tries-next n k s t q e = sym (ap (λ j. tries mean write first b v j s t) q ∙ cond-true _ _ _ e)
 
@@ -335,7 +335,7 @@ module _ {S : Type 0} (sound : S → Type 0) (mean : S → Meaning) (see : S →
     }
 
     module _ (more : used t < t .spares) (w : List ℕ) (lw : length w ≡ 512) (refused : refused-with 3 (write-refusal (mean s) (place t first b) (length v)) ≡ true) where
-      spoils : Spoiled (mean s) (place t first b) (mean (write s (place t first b) w))
+      pub spoils : Spoiled (mean s) (place t first b) (mean (write s (place t first b) w))
       spoils =
           let q = refused-shut (mean s) (place t first b) (length v) sized there refused in
           spoiled-of (mean s) (place t first b) w (mean (write s (place t first b) w)) (q .0) (q .1) (way w lw)

@@ -10,6 +10,7 @@ ghost use Rattle.member.specs.Meaning.{most-blocks, own, put-refusal};
 ghost use Rattle.remap.specs.Places.{table-of, unmoved, kept-back, place, left};
 ghost use Rattle.remap.specs.Remapped.{remap-at, remapped, own-count, Layer, layer, LayerSound, layer-meaning, layer-seen, layer-wrote, layer-ticked, layer-renewed, tries};
 use crate::moves::Moves;
+ghost use Rattle.remap.specs.Rules.{Places-apart, Moves-to-lowest};
 use code::BLOCK;
 use member::Cause;
 use member::Fault;
@@ -45,6 +46,13 @@ impl<M: Member> Remap<M> {
     {
         let Remap { below, moves: _ } = self;
         below
+    }
+
+    // A block that a write moves goes to the lowest spare that takes the write.
+    pub fn moves_to_lowest(&self) -> u8
+        ensures stands { λ _. ⌜ Moves-to-lowest (M·Member .meaning) (M·Member .sound) (M·Member .wrote) ⌝ }
+    {
+        0
     }
 
     // How many blocks the layer has, which is also where its first spare stands below.
@@ -165,4 +173,11 @@ pub impl<M: Member> Member for Remap<M> as RemapMember {
         self.moves.forget();
         self.below.fresh();
     }
+}
+
+// No two blocks stand at one place, whatever was moved.
+pub fn places_apart() -> u8
+    ensures stands { λ _. ⌜ Places-apart ⌝ }
+{
+    0
 }
