@@ -1,8 +1,8 @@
 -- A call on a block of a remap layer is one on its place below.
-use mathlib.Core.Path.{_≡_, refl, sym, ap, ap₂, subst, _∙_}
+use mathlib.Core.Path.{_≡_, sym, ap, ap₂, _∙_}
 use mathlib.Core.Bool.{cond}
 use mathlib.Core.List.{List}
-use Prim.Native.Nat.{ℕ, _+_, _-_, _<_, _≤_}
+use Prim.Native.Nat.{ℕ, _<_, _≤_}
 use native.Mathlib.Omega.{arith}
 use lib.ListN.{length}
 use Rattle.std.specs.Options.{isSome, valueOr}
@@ -12,7 +12,7 @@ use Rattle.member.specs.Faults.{raised}
 use Rattle.member.specs.Meaning.{Meaning, look-refusal, read-refusal, write-refusal, get-refusal, put-refusal, handed}
 use Rattle.member.proofs.Outcomes.{good-look, good-read, good-write, good-handed, good-checked}
 use Rattle.remap.specs.Places.{Table, place, used, left}
-use Rattle.remap.specs.Remapped.{remap-at, remapped, own-count, Layer, layer, layer-seen, tries, layer-wrote}
+use Rattle.remap.specs.Remapped.{remap-at, remapped, own-count, layer, layer-seen, tries, layer-wrote}
 use Rattle.remap.proofs.Tries.{block-in, inside}
 
 module _ (t : Table) (m : Meaning) (within : used t ≤ t .spares) (b first : ℕ) (ef : first ≡ own-count t m) (there : b < first) where

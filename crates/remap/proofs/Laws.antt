@@ -1,35 +1,21 @@
 -- The laws of a member, for a remap layer over a member that keeps them.
 use mathlib.Core.Path.{_≡_, refl, sym, ap, subst, _∙_}
 use mathlib.Core.Logic.{⊎-elim}
-use mathlib.Core.Bool.{Bool, true, false, cond}
+use mathlib.Core.Bool.{true, false, cond}
 use mathlib.Core.List.{List}
-use Prim.Native.Nat.{ℕ, _+_, _-_, _<_, _≤_}
+use Prim.Native.Nat.{ℕ, _-_, _<_, _≤_}
 use native.Mathlib.Omega.{arith}
 use lib.Dec.{eqb, ltb}
 use lib.ListN.{length}
 use Rattle.std.specs.declared.option.Option.the-variants.{Some, None}
 use Rattle.std.proofs.shelf.Tests.{cond-both, cond-true, cond-false, ltb-true, eqb-true, le-ltb, cases-bool}
-use Rattle.code.specs.Blocks.{Bytes, Block}
 use Rattle.member.specs.Faults.{above}
-use Rattle.member.specs.Meaning.{Meaning, Sound, get-refusal, checked}
+use Rattle.member.specs.Meaning.{Meaning, Sound, checked}
 use Rattle.member.specs.Changes.{Written, Ticked, Renewed, Lawful}
 use Rattle.member.proofs.Outcomes.{Outcome, checked-written}
 use Rattle.remap.specs.Places.{Table, place, used, left, unmoved}
-use Rattle.remap.specs.Remapped.{
-  remap-at,
-  remapped,
-  own-count,
-  Layer,
-  layer,
-  LayerSound,
-  layer-meaning,
-  layer-seen,
-  tries,
-  layer-wrote,
-  layer-ticked,
-  layer-renewed,
-}
-use Rattle.remap.proofs.Tries.{block-in, inside, Ended, ends, tries-sound}
+use Rattle.remap.specs.Remapped.{remap-at, remapped, own-count, Layer, layer, LayerSound, layer-meaning, layer-seen, tries, layer-wrote, layer-ticked, layer-renewed}
+use Rattle.remap.proofs.Tries.{block-in, inside, ends, tries-sound}
 
 none≢block : (v : List ℕ) → None ≡ Some v → ⊥
 none≢block v e = let z : _≡_ {A = ℕ} 0 1 = cc in omega arith

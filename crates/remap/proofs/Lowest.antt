@@ -1,19 +1,19 @@
 -- That a moved block goes to the lowest spare that takes it.
 use mathlib.Core.Path.{_≡_, refl, sym, ap, subst, _∙_}
-use mathlib.Core.Logic.{_⊎_, inl, inr, ⊎-elim}
-use mathlib.Core.Bool.{Bool, true, false, cond}
+use mathlib.Core.Logic.{⊎-elim}
+use mathlib.Core.Bool.{true, false}
 use mathlib.Core.List.{List}
-use Prim.Native.Nat.{ℕ, zero, suc, _+_, _-_, _<_, _≤_}
+use Prim.Native.Nat.{ℕ, zero, suc, _+_, _<_, _≤_}
 use native.Mathlib.Omega.{arith}
 use lib.ListN.{length}
-use Rattle.std.proofs.shelf.Tests.{cases-eq, cases-bool, true≢false, false≢true}
+use Rattle.std.proofs.shelf.Tests.{cases-eq, cases-bool, true≢false}
 use Rattle.member.specs.Faults.{refused-with}
 use Rattle.member.specs.Meaning.{Meaning, write-refusal}
 use Rattle.member.specs.Changes.{Spoiled, Lawful}
 use Rattle.member.proofs.Outcomes.{good-checked}
 use Rattle.remap.specs.Places.{Table, place, used, left, moved-on}
-use Rattle.remap.specs.Remapped.{Layer, LayerSound, own-count, remapped, layer-meaning, layer, clipped, tries}
-use Rattle.remap.specs.Rules.{Placed, Places-apart, Lowest, MovedTo, Moves-to-lowest}
+use Rattle.remap.specs.Remapped.{own-count, layer-meaning, clipped, tries}
+use Rattle.remap.specs.Rules.{Places-apart, MovedTo, Moves-to-lowest}
 use Rattle.remap.proofs.Tables.{place-below, place-apart, moved-here}
 use Rattle.remap.proofs.Tries.{length-clipped, bytes-clipped, inside, refused-shut, shut-refused, spoils, tries-end, tries-next}
 

@@ -1,20 +1,19 @@
 -- A write of a remap layer, try by try.
 use mathlib.Core.Path.{_≡_, refl, sym, ap, ap₂, subst, _∙_}
-use mathlib.Core.Logic.{_⊎_, inl, inr, ⊎-elim}
+use mathlib.Core.Logic.{⊎-elim}
 use mathlib.Core.Bool.{Bool, true, false, cond, _||_}
 use mathlib.Core.List.{List, [], _∷_}
 use Prim.Native.Nat.{ℕ, zero, suc, _+_, _-_, _<_, _≤_, min}
 use native.Mathlib.Omega.{arith}
 use lib.Dec.{ltb, lit<}
 use lib.ListN.{length, getD}
-use Rattle.std.specs.declared.option.Option.{Option}
 use Rattle.std.specs.declared.option.Option.the-variants.{Some, None}
-use Rattle.std.proofs.shelf.Tests.{cond-both, cond-true, cond-false, lt-ltb, le-ltb, cases-eq, cases-bool, or-cases, or-left, or-right, or-from, or-parts, true≢false, false≢true}
+use Rattle.std.proofs.shelf.Tests.{cond-both, cond-true, cond-false, lt-ltb, cases-eq, or-cases, or-left, or-right, or-from, or-parts, true≢false, false≢true}
 use Rattle.code.specs.Blocks.{Bytes}
 use Rattle.member.specs.declared.Cause.the-variants.{Gone, Unwritable}
 use Rattle.member.specs.Faults.{Origin, raised, above, refused-with}
 use Rattle.member.specs.Meaning.{Meaning, own, write-refusal, put-refusal}
-use Rattle.member.specs.Changes.{Level, Kept, Taken, Spoiled, Written, Lawful}
+use Rattle.member.specs.Changes.{Level, Kept, Taken, Spoiled, Lawful}
 use Rattle.member.proofs.Outcomes.{Outcome, gone-way, taken-way, spoiled-way, outcome, good-write}
 use Rattle.remap.specs.Places.{Table, place, used, left, moved-on}
 use Rattle.remap.specs.Remapped.{any-from, remap-at, Layer, layer, LayerSound, clipped, tries}
@@ -52,9 +51,6 @@ kept-in t first m n k lt high h = record {
 
 -- ---- a write below at the place of block b
 module _ (t : Table) (first : ℕ) (m n : Meaning) (b : ℕ) (within : used t ≤ t .spares) (room : first + t .spares ≤ m .count) (hb : b < first) where
-  at : ℕ
-  at = place t first b
-
   down : (k : ℕ) → k < first → place t first k < m .count
   down k lt = inside t first m within room k lt
 

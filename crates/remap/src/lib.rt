@@ -1,7 +1,6 @@
 // The remap layer: a member over any other, whose last blocks are spares. A block that refuses a write is moved to a spare.
 ghost use mathlib.Core.Path.{_≡_};
-ghost use mathlib.Core.List.{List};
-ghost use Prim.Native.Nat.{ℕ, _<_, _≤_};
+ghost use Prim.Native.Nat.{_<_, _≤_};
 ghost use lib.ListN.{length};
 ghost use Rattle.std.specs.declared.option.Option.the-variants.{Some};
 ghost use Rattle.code.specs.Blocks.{block-size};

@@ -1,10 +1,10 @@
-use mathlib.Core.Path.{_≡_, refl, sym, ap, _∙_}
+use mathlib.Core.Path.{sym, ap, _∙_}
 use Prim.Native.Nat.{_<_, _≤_}
 use native.Mathlib.Omega.{arith}
 use lib.ListN.{length}
 use Rattle.std.specs.declared.option.Option.the-variants.{Some}
 use Rattle.std.proofs.shelf.Tests.{cond-true, cond-false, lt-ltb, le-ltb}
-use Rattle.remap.specs.Places.{Table, newest, table-of, used}
+use Rattle.remap.specs.Places.{table-of, used}
 use Rattle.remap.proofs.Tables.{length-newest, newest-push}
 use Rattle.remap.proofs.moves.Moves.take.Needs as need
 
