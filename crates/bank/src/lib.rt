@@ -4,7 +4,7 @@ ghost use mathlib.Core.List.{List};
 ghost use Prim.Native.Nat.{ℕ};
 ghost use lib.ListN.{length};
 ghost use Rattle.std.specs.Vec.{made};
-ghost use Rattle.member.specs.Faults.{numbers};
+ghost use Rattle.member.specs.Faults.{numbers, refusal};
 ghost use Rattle.member.specs.Meaning.{look-refusal, read-refusal, write-refusal};
 ghost use Rattle.bank.specs.Slots.{Slots, told, bank-refusal, no-slot, on-slot, slot-refusal, slot-handed};
 ghost use Rattle.bank.specs.Changes.{Slot-written, Slot-ticked, Slot-renewed, Lawful};
@@ -12,6 +12,8 @@ use member::Cause;
 use member::Fault;
 use member::FaultDebug;
 use member::FaultPartialEq;
+
+pub mod chain;
 
 // A refusal of a bank: a member's own fault, whole, or one of cause `NoSlot`.
 #[derive(Clone, Copy, PartialEq, Eq, Debug)]
@@ -41,6 +43,14 @@ pub impl From<Fault> for BankFault as BankFaultFrom {
     fn from(fault: Fault) -> BankFault {
         BankFault { fault }
     }
+}
+
+// A member's answer as the answer of its bank.
+fn lifted(answer: Result<(), Fault>) -> Result<(), BankFault>
+    ensures answered { λ r. ⌜ bank-refusal r ≡ refusal answer ⌝ }
+{
+    answer?;
+    Ok(())
 }
 
 // A bank: a list of members. A slot beyond the list is refused with cause `NoSlot`, and nothing changes. Each other call answers

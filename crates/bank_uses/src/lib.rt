@@ -4,7 +4,16 @@ ghost use Rattle.bank_uses.specs.Uses.{Thrice};
 use bank::Bank;
 
 // Writes three blocks to three slots of any bank.
-fn write_three<B: Bank>(bank: &mut B, i: usize, j: usize, k: usize, block: usize, x: &[u8], y: &[u8], z: &[u8])
+fn write_three<B: Bank>(
+    bank: &mut B,
+    i: usize,
+    j: usize,
+    k: usize,
+    block: usize,
+    x: &[u8],
+    y: &[u8],
+    z: &[u8],
+)
     requires ij { ⌜ (i ≡ j → ⊥) ⌝ }
     requires ik { ⌜ (i ≡ k → ⊥) ⌝ }
     requires jk { ⌜ (j ≡ k → ⊥) ⌝ }
