@@ -45,8 +45,8 @@ pub impl From<Fault> for BankFault as BankFaultFrom {
     }
 }
 
-// A member's answer as the answer of its bank.
-fn lifted(answer: Result<(), Fault>) -> Result<(), BankFault>
+// A member's answer as the answer of its bank, for kinds of bank to pass it up.
+pub fn lifted(answer: Result<(), Fault>) -> Result<(), BankFault>
     ensures answered { λ r. ⌜ bank-refusal r ≡ refusal answer ⌝ }
 {
     answer?;
