@@ -1,27 +1,29 @@
 -- The images of a shelf: where they lie, what they hold, and that a change of one leaves the others.
 use mathlib.Core.Path.{_≡_, refl, sym, ap, subst, _∙_}
 use mathlib.Core.Logic.{⊎-elim}
-use mathlib.Core.Bool.{true, false, cond}
+use mathlib.Core.Bool.{Bool, true, false, cond}
 use mathlib.Core.List.{List, _++_}
 use Prim.Native.Nat.{ℕ, suc, _+_, _-_, _*_, _/_, _<_, _≤_, min}
 use native.Mathlib.Omega.{arith}
 use native.Mathlib.Nat.{mul-le-mul-right, suc-mul, mul-assoc, mul-div-le}
-use lib.Dec.{ltb}
+use lib.Dec.{eqb, ltb}
 use lib.ListN.{length, getD, take, drop, length-take, length-drop, take-append-drop}
 use borrow.Rule.Slice.PartMut.{putMid, same-len-mid}
+use Rattle.std.specs.Options.{isSome}
+use Rattle.std.specs.declared.option.Option.{Option}
 use Rattle.std.specs.declared.option.Option.the-variants.{Some, None}
 use Rattle.std.proofs.shelf.Tests.{cond-true, cond-false, lt-ltb, le-ltb, eq-eqb, cases-order, cases-lt}
 use Rattle.std.proofs.shelf.Parts.{between-is, between-putMid, take-putMid-below, drop-putMid}
 use Rattle.code.specs.Blocks.{Bytes, block-size}
 use Rattle.member.specs.declared.Cause.the-variants.{NoBlock}
-use Rattle.member.specs.Faults.{raised}
-use Rattle.member.specs.Meaning.{Meaning, most-blocks, read-refusal}
+use Rattle.member.specs.Faults.{Refusal, raised}
+use Rattle.member.specs.Meaning.{Meaning, most-blocks, read-refusal, write-refusal}
 use Rattle.member.specs.Changes.{Written, Ticked, Renewed}
-use Rattle.member.specs.Runs.{bottom-origin, image-meaning, image-wrote, image-count}
-use Rattle.member.proofs.Runs.{read-ok, image-room, image-writes, image-lawful, length-wrote, low-wrote, low-take, low-drop, low-append}
-use Rattle.bank.specs.Slots.{on-slot}
+use Rattle.member.specs.Runs.{bottom-origin, cut, pasted, image-meaning, image-wrote, image-count}
+use Rattle.member.proofs.Runs.{read-ok, handed-ok, wrote-ok, image-room, image-writes, image-lawful, length-wrote, low-wrote, low-take, low-drop, low-append}
+use Rattle.bank.specs.Slots.{Slots, no-slot, on-slot, slot-handed}
 use Rattle.bank.specs.Changes.{Changed, Slot-written, Lawful}
-use Rattle.shelf.specs.Shelves.{Shelved, shelved, shelf-sound, span, part, with-part, shelf-meaning, shelf-wrote}
+use Rattle.shelf.specs.Shelves.{Shelved, shelved, shelf-sound, span, part, with-part, shelf-meaning, shelf-wrote, Found}
 
 -- ---- where the images lie
 step : (k i e : ℕ) → k < i → k * e + e ≤ i * e
@@ -128,7 +130,7 @@ module _ (s : Shelved) (i b : ℕ) (v : List ℕ) where
       (beyond-changed (λ m n. Written m b v n) s i le))
       (cases-lt i (s .images))
 
-  wrote-low : shelf-sound s → Bytes (length v) v → (k : ℕ) → getD (shelf-wrote s i b v .bytes) k 0 < 256
+  pub wrote-low : shelf-sound s → Bytes (length v) v → (k : ℕ) → getD (shelf-wrote s i b v .bytes) k 0 < 256
   wrote-low h g k =
       ⊎-elim
       (λ (lt : i < s .images). subst (λ t. getD (t .bytes) k 0 < 256) (sym (wrote-here lt))
@@ -164,3 +166,78 @@ module _ (xs : List ℕ) (n i b m : ℕ) (lt : i < n) (sized : m ≡ block-size)
       cond-true _ _ _ (lt-ltb i n lt)
       ∙ cond-true _ _ _ (eq-eqb m block-size sized)
       ∙ cond-false _ _ _ (le-ltb b (image-count (part xs n i)) high)
+
+-- ---- reads and writes by what they are refused with
+same-refusal : (sized there : Bool) (x : List ℕ) (y z w : Refusal)
+    → cond sized (cond there (cond (isSome (cond there (Some x) None)) None (Some y)) (Some z)) (Some w) ≡ cond sized (cond there None (Some z)) (Some w)
+same-refusal true true x y z w = refl
+same-refusal true false x y z w = refl
+same-refusal false there x y z w = refl
+
+-- a shelf's write is refused as a read is
+pub read-as-write : (s : Shelved) (i b n : ℕ)
+    → on-slot (shelf-meaning s) i b (λ m. read-refusal m b n) ≡ on-slot (shelf-meaning s) i b (λ m. write-refusal m b n)
+read-as-write s i b n =
+    let p = part (s .bytes) (s .images) i in
+    ap (λ r. cond (ltb i (s .images)) r (Some (no-slot b))) (same-refusal (eqb n block-size) (ltb b (image-count p)) (cut p b) _ _ _)
+
+refused-old : (there : Bool) (r : Option Refusal) (d f : Refusal) (new old : List ℕ) → cond there r (Some d) ≡ Some f
+    → old ≡ cond there (cond (isSome r) old new) old
+refused-old true (Some r) d f new old e = refl
+refused-old true None d f new old e = let z : _≡_ {A = ℕ} 0 1 = cc in absurd (omega arith)
+refused-old false r d f new old e = refl
+
+-- a refused read leaves the buffer
+pub refused-handed : (ms : Slots) (i b : ℕ) (old : List ℕ) (f : Refusal) → on-slot ms i b (λ m. read-refusal m b (length old)) ≡ Some f
+    → old ≡ slot-handed ms i b old
+refused-handed ms i b old f e = refused-old (ltb i (ms .size)) (read-refusal (ms .member i) b (length old)) (no-slot b) f _ old e
+
+-- a buffer with an image put back as it was
+pub same-part : (xs : List ℕ) (n i : ℕ) → with-part xs n i (part xs n i) ≡ xs
+same-part xs n i =
+    ap (λ z. take (i * span xs n) xs ++ z) (take-append-drop (span xs n) (drop (i * span xs n) xs)) ∙ take-append-drop (i * span xs n) xs
+
+refused-same : (here sized there : Bool) (z w d f : Refusal) (s : Shelved) (put : List ℕ → Shelved) (new old : List ℕ)
+    → cond here (cond sized (cond there None (Some z)) (Some w)) (Some d) ≡ Some f → put old ≡ s
+    → s ≡ cond here (put (cond sized (cond there new old) old)) s
+refused-same true true true z w d f s put new old e same = let y : _≡_ {A = ℕ} 0 1 = cc in absurd (omega arith)
+refused-same true true false z w d f s put new old e same = sym same
+refused-same true false there z w d f s put new old e same = sym same
+refused-same false sized there z w d f s put new old e same = refl
+
+-- a refused write leaves the shelf
+pub refused-wrote : (s : Shelved) (i b : ℕ) (v : List ℕ) (f : Refusal)
+    → on-slot (shelf-meaning s) i b (λ m. write-refusal m b (length v)) ≡ Some f → s ≡ shelf-wrote s i b v
+refused-wrote s i b v f e =
+    let p = part (s .bytes) (s .images) i in
+    refused-same (ltb i (s .images)) (eqb (length v) block-size) (ltb b (image-count p)) _ _ (no-slot b) f s
+    (λ ys. shelved (with-part (s .bytes) (s .images) i ys) (s .images)) (pasted p b v) p e
+    (ap (λ xs. shelved xs (s .images)) (same-part (s .bytes) (s .images) i))
+
+-- ---- an image that was found, as it is lent and put back
+module _ (xs : List ℕ) (n i b m a e : ℕ) (at : Found xs n i b m a e) where
+  width : e - a ≡ span xs n
+  width = omega (arith, at .to)
+
+  pub lent-is : take (e - a) (drop a xs) ≡ part xs n i
+  lent-is = ap (λ w. take w (drop a xs)) width ∙ ap (λ k. take (span xs n) (drop k xs)) (at .from)
+
+  pub lent-room : b * 512 + 512 ≤ length (take (e - a) (drop a xs))
+  lent-room = omega (arith, ap length lent-is, part-length xs n i (at .slot), at .block)
+
+  pub back-is : (ys : List ℕ) → putMid a (e - a) xs ys ≡ with-part xs n i ys
+  back-is ys = ap (λ w. putMid a w xs ys) width ∙ ap (λ k. putMid k (span xs n) xs ys) (at .from)
+
+  pub handed-found : (old : List ℕ) → length old ≡ m → cut (take (e - a) (drop a xs)) b ≡ slot-handed (shelf-meaning (shelved xs n)) i b old
+  handed-found old long =
+      ap (λ p. cut p b) lent-is
+      ∙ sym (cond-true _ _ _ (lt-ltb i n (at .slot)) ∙ handed-ok (image-count (part xs n i)) (part xs n i) b (at .low) old (long ∙ at .sized))
+
+  pub wrote-found : (v : List ℕ) → length v ≡ m
+      → shelved (putMid a (e - a) xs (pasted (take (e - a) (drop a xs)) b v)) n ≡ shelf-wrote (shelved xs n) i b v
+  wrote-found v long =
+      ap (λ ys. shelved ys n)
+      (back-is _
+      ∙ ap (with-part xs n i)
+      (ap (λ p. pasted p b v) lent-is ∙ sym (wrote-ok (image-count (part xs n i)) (part xs n i) b (at .low) v (long ∙ at .sized))))
+      ∙ sym (wrote-here (shelved xs n) i b v (at .slot))
