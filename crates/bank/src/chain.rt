@@ -1,66 +1,16 @@
-// A bank of members one before the other, each of a kind of its own: empty, or any member before any bank.
+// A bank of members one before the other, each of a kind of its own: any member before any bank.
 ghost use mathlib.Core.Path.{_≡_};
-ghost use Rattle.bank.specs.Chains.{no-members, linked, Linked, Linked-sound, linked-meaning, linked-change};
+ghost use Rattle.bank.specs.Chains.{linked, Linked, Linked-sound, linked-meaning, linked-change};
 use crate::Bank;
 use crate::BankFault;
 use crate::lifted;
 use member::Member;
-
-// The bank without members.
-#[derive(Clone, Copy)]
-pub struct NoMembers;
 
 // A member in slot 0, before a bank whose slots stand one further each.
 #[derive(Drop)]
 pub struct Link<M, B> {
     pub first: M,
     pub rest: B,
-}
-
-pub impl Bank for NoMembers as NoMembersBank {
-    ghost State = { Unit {0} };
-
-    ghost state = { λ _. tt };
-
-    ghost sound = { λ _. Unit {0} };
-
-    ghost meaning = { λ _. no-members };
-
-    ghost seen = { λ s _ _ _. s };
-
-    ghost wrote = { λ s _ _ _. s };
-
-    ghost ticked = { λ s _. s };
-
-    ghost renewed = { λ s _. s };
-
-    fn len(&self) -> usize {
-        0
-    }
-
-    fn count(&self, _slot: usize) -> Result<usize, BankFault> {
-        Err(BankFault::no_slot(0))
-    }
-
-    fn look(&self, _slot: usize, block: usize) -> Result<(), BankFault> {
-        Err(BankFault::no_slot(block))
-    }
-
-    fn read(&mut self, _slot: usize, block: usize, _buffer: &mut [u8]) -> Result<(), BankFault> {
-        Err(BankFault::no_slot(block))
-    }
-
-    fn write(&mut self, _slot: usize, block: usize, _bytes: &[u8]) -> Result<(), BankFault> {
-        Err(BankFault::no_slot(block))
-    }
-
-    fn tick(&mut self, _slot: usize) -> Result<(), BankFault> {
-        Err(BankFault::no_slot(0))
-    }
-
-    fn fresh(&mut self, _slot: usize) -> Result<(), BankFault> {
-        Err(BankFault::no_slot(0))
-    }
 }
 
 pub impl<M: Member, B: Bank> Bank for Link<M, B> as LinkBank {

@@ -14,6 +14,7 @@ use member::FaultDebug;
 use member::FaultPartialEq;
 
 pub mod chain;
+pub mod empty;
 
 // A refusal of a bank: a member's own fault, whole, or one of cause `NoSlot`.
 #[derive(Clone, Copy, PartialEq, Eq, Debug)]
