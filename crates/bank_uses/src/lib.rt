@@ -2,7 +2,11 @@
 ghost use mathlib.Core.Path.{_≡_};
 ghost use mathlib.Core.Bool.{_&&_, not, true, false};
 ghost use lib.Dec.{eqb};
+ghost use Rattle.std.specs.declared.option.Option.the-variants.{None};
+ghost use Rattle.std.specs.Of.Vec.{vec-items};
 ghost use Rattle.member.specs.Runs.{cell-zeros};
+ghost use Rattle.bank.specs.Slots.{bank-refusal};
+ghost use Rattle.shelf.specs.Shelves.{shelved, shelf-wrote};
 ghost use Rattle.bank_uses.specs.Uses.{Thrice};
 use bank::Bank;
 use bank::BankFault;
@@ -12,6 +16,8 @@ use bank::empty::NoMembers;
 use bank::empty::NoMembersBank;
 use member::cell::Cell;
 use member::cell::CellMember;
+use shelf::Shelf;
+use shelf::ShelfBank;
 
 // Writes three blocks to three slots of any bank, which have to be distinct: nothing is written otherwise.
 pub fn write_three<B: Bank>(
@@ -38,8 +44,24 @@ pub fn write_three<B: Bank>(
 
 // A fresh member in slot 1 of a chain of two cells: it holds zeros, and the other cell is kept.
 pub fn renew_second(bank: &mut Link<Cell, Link<Cell, NoMembers>>) -> Result<(), BankFault>
+    ensures answered { λ r. ⌜ bank-refusal r ≡ None ⌝ }
     ensures second { λ _. ⌜ now (bank .exit) .rest .first .bytes ≡ cell-zeros ⌝ }
     ensures first { λ _. ⌜ now (bank .exit) .first .bytes ≡ now (bank .entry) .first .bytes ⌝ }
 {
     bank.fresh(1)
+}
+
+// Writes a block to one of the images in a buffer, and hands the buffer back.
+pub fn write_image(
+    buffer: Vec<u8>,
+    images: usize,
+    slot: usize,
+    block: usize,
+    bytes: &[u8],
+) -> Vec<u8>
+    ensures value { λ r. ⌜ vec-items r ≡ shelf-wrote (shelved (vec-items buffer) images) slot block (now (bytes .entry)) .bytes ⌝ }
+{
+    let mut shelf = Shelf::new(buffer, images);
+    let _ = shelf.write(slot, block, bytes);
+    shelf.into_buffer()
 }
