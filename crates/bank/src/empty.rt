@@ -3,7 +3,7 @@ ghost use Rattle.bank.specs.Chains.{no-members};
 use crate::Bank;
 use crate::BankFault;
 
-// The bank without members.
+// No slot of it is there.
 #[derive(Clone, Copy)]
 pub struct NoMembers;
 
