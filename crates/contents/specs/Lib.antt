@@ -1,0 +1,5 @@
+pub mod Columns
+pub mod Refusals
+pub mod Shapes
+pub mod Answers
+pub mod Changes
