@@ -3,3 +3,4 @@ pub mod Refusals
 pub mod Shapes
 pub mod Answers
 pub mod Changes
+pub mod Theorems

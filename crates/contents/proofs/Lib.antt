@@ -1,0 +1,3 @@
+pub mod Statuses
+pub mod Members
+pub mod Walks
