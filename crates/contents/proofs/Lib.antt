@@ -1,3 +1,5 @@
 pub mod Statuses
 pub mod Members
 pub mod Walks
+pub mod Fitting
+pub mod Keeping
