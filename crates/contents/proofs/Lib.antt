@@ -3,3 +3,5 @@ pub mod Members
 pub mod Walks
 pub mod Fitting
 pub mod Keeping
+pub mod Reading
+pub mod Writing

@@ -8,7 +8,7 @@ use lib.Dec.{ltb}
 use Rattle.std.specs.Options.{isSome}
 use Rattle.std.specs.declared.option.Option.{Option}
 use Rattle.std.specs.declared.option.Option.the-variants.{Some, None}
-use Rattle.std.proofs.shelf.Tests.{cond-true, cond-false, lt-ltb, le-ltb, true≢false}
+use Rattle.std.proofs.shelf.Tests.{cond-true, cond-false, lt-ltb, le-ltb, false≢true}
 use Rattle.parity.specs.Stripe.{Holds}
 use Rattle.contents.specs.declared.Status.{Status}
 use Rattle.contents.specs.declared.Status.the-variants.{Current, Gone, Behind, Unreadable}
@@ -43,6 +43,12 @@ shown-holds true b o v h = tt
 shown-holds false true o v h = h
 shown-holds false false o v h = tt
 
+unreadable-by : (g b : Bool) (o : Option (List ℕ)) → is-unreadable (status-by g b o) ≡ true → (g ≡ false) × (b ≡ true) × (o ≡ None)
+unreadable-by true b o e = absurd (false≢true e)
+unreadable-by false false o e = absurd (false≢true e)
+unreadable-by false true None e = (refl, refl, refl)
+unreadable-by false true (Some x) e = absurd (false≢true e)
+
 module _ (M : Members) (F : Frontiers) (s i : ℕ) where
   pub status-is : status M F s i ≡ status-by (M i .gone) (ltb s (F i)) (M i .block s)
   unfolding status
@@ -69,3 +75,7 @@ module _ (M : Members) (F : Frontiers) (s i : ℕ) where
 
   pub status-current : M i .gone ≡ false → s < F i → isSome (M i .block s) ≡ true → status M F s i ≡ Current
   status-current g l o = status-is ∙ cond-false _ _ _ g ∙ cond-true _ _ _ (lt-ltb s (F i) l) ∙ cond-true _ _ _ o
+
+  -- an unreadable column has a present member and lies below the frontier
+  pub unreadable-parts : is-unreadable (status M F s i) ≡ true → (M i .gone ≡ false) × (ltb s (F i) ≡ true) × (M i .block s ≡ None)
+  unreadable-parts u = unreadable-by (M i .gone) (ltb s (F i)) (M i .block s) (sym (ap is-unreadable status-is) ∙ u)

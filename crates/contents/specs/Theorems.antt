@@ -62,8 +62,9 @@ Writes = (V : Shape) → Valid V → (M : Members) (F : Frontiers) → Roomy V M
 pub record Scrubbing (V : Shape) (M : Members) (F : Frontiers) (s : ℕ) (N : Members) : Type 0 where
   pub fits : Fits-on V M F N
   pub counts : Counts-kept M N
-  -- an unreadable column whose member takes the write is current after a taken scrub
-  pub mends : scrub-takes V M F s ≡ true → (i : ℕ) → i < V .slots → status M F s i ≡ Unreadable → takes (M i) s ≡ true → status N F s i ≡ Current
+  -- where some content fits, an unreadable column whose member takes the write is current after a taken scrub
+  pub mends : (c : ℕ → List ℕ) → Fits-volume V M F c → scrub-takes V M F s ≡ true → (i : ℕ) → i < V .slots → status M F s i ≡ Unreadable → takes (M i) s ≡ true
+    → status N F s i ≡ Current
 
 abbrev pub Scrubs : Type 0
 Scrubs = (V : Shape) → Valid V → (M : Members) (F : Frontiers) → Roomy V M → (s : ℕ) (N : Members) → Scrub-changes V M F s N → Scrubbing V M F s N
