@@ -25,9 +25,9 @@ use Rattle.contents.specs.Shapes.{Shape, Valid, data-columns, blocks, stripe-o
 pub column-cong : (C : Coding) (k : ℕ) (c d : ℕ → List ℕ) → ((i : ℕ) → i < k → c i ≡ d i) → (t : ℕ) → t < k + 2 → column C k c t ≡ column C k d t
 column-cong C k c d h t l =
     elim (kind k t l) [
-      is-data m ↦ column-data C k c t m ∙ h t m ∙ sym (column-data C k d t m)
-    | is-P e ↦ column-P C k c t e ∙ sum-cong k c d h ∙ sym (column-P C k d t e)
-    | is-Q e ↦ column-Q C k c t e ∙ sum-cong k (λ j. C .mix j (c j)) (λ j. C .mix j (d j)) (λ i m. ap (C .mix i) (h i m)) ∙ sym (column-Q C k d t e)
+      | is-data m ↦ column-data C k c t m ∙ h t m ∙ sym (column-data C k d t m)
+      | is-P e ↦ column-P C k c t e ∙ sum-cong k c d h ∙ sym (column-P C k d t e)
+      | is-Q e ↦ column-Q C k c t e ∙ sum-cong k (λ j. C .mix j (c j)) (λ j. C .mix j (d j)) (λ i m. ap (C .mix i) (h i m)) ∙ sym (column-Q C k d t e)
     ]
 
 pub fits-cong : (C : Coding) (k : ℕ) (c d : ℕ → List ℕ) (cols : ℕ → Option (List ℕ)) → ((i : ℕ) → i < k → c i ≡ d i) → Fits C k c cols → Fits C k d cols
@@ -37,9 +37,9 @@ module _ (C : Coding) (L : Lawful block-size C) (k : ℕ) (kw : k ≤ C .limit) 
   pub column-block : (c : ℕ → List ℕ) → Content k c → (t : ℕ) → t < k + 2 → Block (column C k c t)
   column-block c h t l =
       elim (kind k t l) [
-        is-data m ↦ subst Block (sym (column-data C k c t m)) (h t m)
-      | is-P e ↦ subst Block (sym (column-P C k c t e)) (sum-block k c h)
-      | is-Q e ↦ subst Block (sym (column-Q C k c t e)) (sum-block k (λ j. C .mix j (c j)) (λ j m. L .single j (omega arith) .there (c j) (h j m)))
+        | is-data m ↦ subst Block (sym (column-data C k c t m)) (h t m)
+        | is-P e ↦ subst Block (sym (column-P C k c t e)) (sum-block k c h)
+        | is-Q e ↦ subst Block (sym (column-Q C k c t e)) (sum-block k (λ j. C .mix j (c j)) (λ j m. L .single j (omega arith) .there (c j) (h j m)))
       ]
 
   mix-zeros : (j : ℕ) → j < k → C .mix j zeros ≡ zeros
@@ -51,9 +51,9 @@ module _ (C : Coding) (L : Lawful block-size C) (k : ℕ) (kw : k ≤ C .limit) 
   pub column-zeros : (t : ℕ) → t < k + 2 → column C k (λ _. zeros) t ≡ zeros
   column-zeros t l =
       elim (kind k t l) [
-        is-data m ↦ column-data C k (λ _. zeros) t m
-      | is-P e ↦ column-P C k (λ _. zeros) t e ∙ sum-zeros k (λ _. zeros) (λ i m. refl)
-      | is-Q e ↦ column-Q C k (λ _. zeros) t e ∙ sum-zeros k (λ j. C .mix j zeros) (λ i m. mix-zeros i m)
+        | is-data m ↦ column-data C k (λ _. zeros) t m
+        | is-P e ↦ column-P C k (λ _. zeros) t e ∙ sum-zeros k (λ _. zeros) (λ i m. refl)
+        | is-Q e ↦ column-Q C k (λ _. zeros) t e ∙ sum-zeros k (λ j. C .mix j zeros) (λ i m. mix-zeros i m)
       ]
 
 -- ---- what a volume's code gives for column t of stripe s
@@ -75,8 +75,8 @@ module _ (V : Shape) (L : Valid V) where
       ⊎-elim
       (λ (h : 0 < V .stripes). h)
       (λ (h : V .stripes ≤ 0).
-        let z : a < 0 * data-columns V = subst (λ (x : ℕ). a < x * data-columns V) (omega arith) l in
-        absurd (omega arith))
+      let z : a < 0 * data-columns V = subst (λ (x : ℕ). a < x * data-columns V) (omega arith) l in
+      absurd (omega arith))
       (cases-lt 0 (V .stripes))
 
   -- ---- the place of block a
@@ -110,7 +110,7 @@ module _ (V : Shape) (L : Valid V) where
 
   -- a stripe fits if each slot holds what it should
   pub from-slots : (M : Members) (F : Frontiers) (c : ℕ → List ℕ) (s : ℕ) → s < V .stripes
-    → ((j : ℕ) → j < V .slots → Holds (held M F s j) (gives V c s (V .back s j))) → Fits (V .code) (data-columns V) (stripe V c s) (columns-at V M F s)
+      → ((j : ℕ) → j < V .slots → Holds (held M F s j) (gives V c s (V .back s j))) → Fits (V .code) (data-columns V) (stripe V c s) (columns-at V M F s)
   from-slots M F c s ls h t l =
       let p = L .placed s in
       let lt : t < V .slots = (let w = width (omega arith) in omega arith) in

@@ -25,7 +25,7 @@ use Rattle.contents.specs.Answers.{scrub-takes, takes}
 use Rattle.contents.specs.Changes.{Put, Scrubbed, Scrub-changes, Tick-changes, Zeroed, Format-changes}
 use Rattle.contents.specs.Theorems.{Counts-kept, Fits-on, Scrubbing, Scrubs, Ticks, Formats}
 use Rattle.contents.proofs.Statuses.{shown, held-is, status-current, unreadable-parts}
-use Rattle.contents.proofs.Members.{written-count, written-gone, written-others, written-absent, written-present, write-refusal-is, holds-none, holds-either, held-same, held-holds, held-gone, written-holds, put-apart, put-count}
+use Rattle.contents.proofs.Members.{written-count, written-gone, written-others, written-present, holds-as, holds-none, holds-either, held-same, held-holds, held-gone, written-holds, put-apart, put-count}
 use Rattle.contents.proofs.Walks.{walk-each, walk-rest}
 use Rattle.contents.proofs.Fitting.{column-zeros, gives, reaches, width, gives-block, recovered-is, by-slot, from-slots}
 
@@ -33,9 +33,6 @@ use Rattle.contents.proofs.Fitting.{column-zeros, gives, reaches, width, gives
 counts-of : (n : ℕ) (M N : Members) → ((j : ℕ) → j < n → N j .count ≡ M j .count) → ((j : ℕ) → n ≤ j → N j ≡ M j) → Counts-kept M N
 counts-of n M N f g j =
     ⊎-elim (λ (l : j < n). f j l) (λ (l : n ≤ j). ap (λ (m : Meaning). m .count) (g j l)) (cases-lt j n)
-
-holds-as : (o p : Option (List ℕ)) (v : List ℕ) → o ≡ p → Holds p v → Holds o v
-holds-as o p v e h = subst (λ (x : Option (List ℕ)). Holds x v) (sym e) h
 
 -- ---- ticks
 
@@ -54,9 +51,9 @@ ticks V L M F room N w =
       (λ c f. record {
         blocks = f .blocks;
         fits = λ s ls. from-slots V L N F c s ls (λ j l.
-          let t = each j l in
-          holds-as (held N F s j) _ _ (held-is N F s j)
-          (shown-fewer (M j .gone) (N j .gone) (ltb s (F j)) (M j .block s) (N j .block s) (t .gone) (λ v e. t .blocks s v (let r = room j l in omega arith) e) _
+            let t = each j l in
+            holds-as (held N F s j) _ _ (held-is N F s j)
+            (shown-fewer (M j .gone) (N j .gone) (ltb s (F j)) (M j .block s) (N j .block s) (t .gone) (λ v e. t .blocks s v (let r = room j l in omega arith) e) _
             (holds-as _ (held M F s j) _ (sym (held-is M F s j)) (by-slot V L M F c f s ls j l))));
       }),
       counts-of (V .slots) M N (λ j l. each j l .level .count) (walk-rest (V .slots) (λ _. Ticked) M N w),
@@ -74,7 +71,7 @@ module _ (V : Shape) (L : Valid V) (M : Members) (F : Frontiers) (room : Roomy V
 
   -- a column that was unreadable and whose member took the write
   scrub-mends : b < V .stripes → lossy V M F b ≡ false → (c : ℕ → List ℕ) → Fits-volume V M F c → (j : ℕ) → j < V .slots → status M F b j ≡ Unreadable → takes (M j) b ≡ true
-    → status N F b j ≡ Current
+      → status N F b j ≡ Current
   scrub-mends lb p c f j l u k =
       let t = V .back b j in
       let lt : t < data-columns V + 2 = (let h = L .placed b .column-below j l in let w = width V L (omega arith) in omega arith) in
@@ -93,13 +90,13 @@ module _ (V : Shape) (L : Valid V) (M : Members) (F : Frontiers) (room : Roomy V
   scrub-fits lb p c f = record {
     blocks = f .blocks;
     fits = λ s ls. from-slots V L N F c s ls (λ j l.
-      let q = scrub-each j l in
-      let old = by-slot V L M F c f s ls j l in
-      let r = room j l in
-      ⊎-elim
-      (λ (e : s ≡ b). subst (λ (x : ℕ). Holds (held N F x j) (gives V c x (V .back x j))) (sym e) (anew c f lb j l))
-      (λ (ne : s ≡ b → ⊥). holds-as (held N F s j) (held M F s j) _ (put-apart M N F _ b s j _ (omega arith) ne q) old)
-      (cases-eq s b));
+        let q = scrub-each j l in
+        let old = by-slot V L M F c f s ls j l in
+        let r = room j l in
+        ⊎-elim
+        (λ (e : s ≡ b). subst (λ (x : ℕ). Holds (held N F x j) (gives V c x (V .back x j))) (sym e) (anew c f lb j l))
+        (λ (ne : s ≡ b → ⊥). holds-as (held N F s j) (held M F s j) _ (put-apart M N F _ b s j _ (omega arith) ne q) old)
+        (cases-eq s b));
   }
     where
       anew : (c : ℕ → List ℕ) → Fits-volume V M F c → b < V .stripes → (j : ℕ) → j < V .slots → Holds (held N F b j) (gives V c b (V .back b j))
@@ -110,8 +107,8 @@ module _ (V : Shape) (L : Valid V) (M : Members) (F : Frontiers) (room : Roomy V
           let q = scrub-each j l in
           ⊎-elim
           (λ (u : is-unreadable (status M F b j) ≡ true).
-            subst (λ (v : List ℕ). Holds (held N F b j) v) is
-            (written-holds M N F b j (recovered-at V M F b t) (let r = room j l in omega arith) (ap length is ∙ gives-block V L M F c f b lb t lt .long) (q .written u)))
+          subst (λ (v : List ℕ). Holds (held N F b j) v) is
+          (written-holds M N F b j (recovered-at V M F b t) (let r = room j l in omega arith) (ap length is ∙ gives-block V L M F c f b lb t lt .long) (q .written u)))
           (λ (u : is-unreadable (status M F b j) ≡ false). holds-as (held N F b j) (held M F b j) _ (held-same M N F b j (q .kept u)) (by-slot V L M F c f b lb j l))
           (cases-bool (is-unreadable (status M F b j)))
 
@@ -155,7 +152,7 @@ module _ (V : Shape) (M : Members) (room : Roomy V M) (N : Members) (w : Format-
   counts-at (suc t) l j =
       subst (λ (x : ℕ). w .at x j .count ≡ M j .count) (add-one t)
       (counts-of (V .slots) (w .at t) (w .at (t + 1)) (λ i m. written-count (w .at t i) t zeros (w .at (t + 1) i) (zero-each t (omega arith) i m))
-        (walk-rest (V .slots) (λ _ m n. Written m t zeros n) (w .at t) (w .at (t + 1)) (w .each t (omega arith))) j
+      (walk-rest (V .slots) (λ _ m n. Written m t zeros n) (w .at t) (w .at (t + 1)) (w .each t (omega arith))) j
       ∙ counts-at t (omega arith) j)
 
   zeros-at : (t : ℕ) → t ≤ V .stripes → (j : ℕ) → j < V .slots → (s : ℕ) → s < t → Zero-at (w .at t j) s
@@ -165,22 +162,22 @@ module _ (V : Shape) (M : Members) (room : Roomy V M) (N : Members) (w : Format-
       let room-t : s < w .at t j .count = (let r = room j lj in let k = counts-at t (omega arith) j in omega arith) in
       subst (λ (y : ℕ). Zero-at (w .at y j) s) (add-one t)
       (⊎-elim
-        (λ (e : s ≡ t). subst (λ (y : ℕ). Zero-at (w .at (t + 1) j) y) (sym e) (zero-here (w .at t j) t (w .at (t + 1) j) (subst (λ (y : ℕ). y < w .at t j .count) e room-t) x))
-        (λ (ne : s ≡ t → ⊥). zero-kept (w .at t j) t s (w .at (t + 1) j) room-t ne x (zeros-at t (omega arith) j lj s (omega arith)))
-        (cases-eq s t))
+      (λ (e : s ≡ t). subst (λ (y : ℕ). Zero-at (w .at (t + 1) j) y) (sym e) (zero-here (w .at t j) t (w .at (t + 1) j) (subst (λ (y : ℕ). y < w .at t j .count) e room-t) x))
+      (λ (ne : s ≡ t → ⊥). zero-kept (w .at t j) t s (w .at (t + 1) j) room-t ne x (zeros-at t (omega arith) j lj s (omega arith)))
+      (cases-eq s t))
 
 pub formats : Formats
 formats V L M F room N w = (
-    record {
-      blocks = λ a l. block-zeros;
-      fits = λ s ls. from-slots V L N F (λ _. zeros) s ls (λ j l.
+  record {
+    blocks = λ a l. block-zeros;
+    fits = λ s ls. from-slots V L N F (λ _. zeros) s ls (λ j l.
         let lt : V .back s j < data-columns V + 2 = (let h = L .placed s .column-below j l in let w = width V L (omega arith) in omega arith) in
         let z : Zero-at (N j) s = subst (λ (A : Members). Zero-at (A j) s) (w .ends) (zeros-at V M room N w (V .stripes) (omega arith) j l s ls) in
         subst (λ (v : List ℕ). Holds (held N F s j) v) (sym (column-zeros (V .code) (L .lawful) (data-columns V) (reaches V L) (V .back s j) lt))
         (⊎-elim
-          (λ (g : N j .gone ≡ true). holds-none (held N F s j) zeros (held-gone N N F s j g))
-          (λ (g : N j .gone ≡ false). held-holds N N F s j zeros (z g))
-          (cases-bool (N j .gone))));
-    },
-    subst (λ (A : Members). Counts-kept M A) (w .ends) (counts-at V M room N w (V .stripes) (omega arith)),
-  )
+        (λ (g : N j .gone ≡ true). holds-none (held N F s j) zeros (held-gone N N F s j g))
+        (λ (g : N j .gone ≡ false). held-holds N N F s j zeros (z g))
+        (cases-bool (N j .gone))));
+  },
+  subst (λ (A : Members). Counts-kept M A) (w .ends) (counts-at V M room N w (V .stripes) (omega arith)),
+)

@@ -4,4 +4,8 @@ pub mod Walks
 pub mod Fitting
 pub mod Keeping
 pub mod Reading
+pub mod Storing
 pub mod Writing
+pub mod Masks
+pub mod Losing
+pub mod Forming

@@ -65,7 +65,7 @@ module _ (m : Meaning) (b : ℕ) (v : List ℕ) (n : Meaning) (l : b < m .count)
       (cases-bool (m .writable b))
 
 -- ---- columns
-holds-as : (o : Option (List ℕ)) (p : Option (List ℕ)) (v : List ℕ) → o ≡ p → Holds p v → Holds o v
+pub holds-as : (o p : Option (List ℕ)) (v : List ℕ) → o ≡ p → Holds p v → Holds o v
 holds-as o p v e h = subst (λ (x : Option (List ℕ)). Holds x v) (sym e) h
 
 pub holds-none : (o : Option (List ℕ)) (v : List ℕ) → o ≡ None → Holds o v
@@ -114,8 +114,8 @@ pub put-apart : (M N : Members) (F : Frontiers) (d : Bool) (s u i : ℕ) (v : Li
 put-apart M N F d s u i v l ne p =
     ⊎-elim
     (λ (e : d ≡ true).
-      let w = p .written e in
-      held-by M N F u i (written-gone (M i) s v (N i) w) (written-others (M i) s v (N i) w u l ne))
+    let w = p .written e in
+    held-by M N F u i (written-gone (M i) s v (N i) w) (written-others (M i) s v (N i) w u l ne))
     (λ (e : d ≡ false). held-same M N F u i (p .kept e))
     (cases-bool d)
 

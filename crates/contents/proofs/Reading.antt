@@ -75,14 +75,14 @@ module _ (V : Shape) (L : Valid V) (M : Members) (F : Frontiers) (a : ℕ) (la :
   spread-out s d u i n l = sym (cond-false _ _ _ (ne-eqb ((u * data-columns V + i) / data-columns V) s (λ e. n (sym (digits-div u l) ∙ e))))
 
   spread-fits : (s : ℕ) (d : ℕ → List ℕ) → Fits (V .code) (data-columns V) d (columns-at V M F s)
-    → (u : ℕ) → u < V .stripes → Fits (V .code) (data-columns V) (stripe V (spread s d) u) (columns-at V M F u)
+      → (u : ℕ) → u < V .stripes → Fits (V .code) (data-columns V) (stripe V (spread s d) u) (columns-at V M F u)
   spread-fits s d g u lu =
       ⊎-elim
       (λ (e : u ≡ s).
-        subst (λ (x : ℕ). Fits (V .code) (data-columns V) (stripe V (spread s d) x) (columns-at V M F x)) (sym e)
-        (fits-cong (V .code) (data-columns V) d (stripe V (spread s d) s) (columns-at V M F s) (spread-in s d) g))
+      subst (λ (x : ℕ). Fits (V .code) (data-columns V) (stripe V (spread s d) x) (columns-at V M F x)) (sym e)
+      (fits-cong (V .code) (data-columns V) d (stripe V (spread s d) s) (columns-at V M F s) (spread-in s d) g))
       (λ (n : u ≡ s → ⊥).
-        fits-cong (V .code) (data-columns V) (stripe V c u) (stripe V (spread s d) u) (columns-at V M F u) (λ i l. spread-out s d u i n l) (f .fits u lu))
+      fits-cong (V .code) (data-columns V) (stripe V c u) (stripe V (spread s d) u) (columns-at V M F u) (λ i l. spread-out s d u i n l) (f .fits u lu))
       (cases-eq u s)
 
   -- another content fits that differs at the block
@@ -95,7 +95,7 @@ module _ (V : Shape) (L : Valid V) (M : Members) (F : Frontiers) (a : ℕ) (la :
       let q = and-parts (not (isSome (columns-at V M F s i))) (lossy V M F s) p in
       let three : 2 < missing-at V M F s = ltb-true 2 (missing-at V M F s) (q .1) in
       let free = free-column (V .code) (L .lawful) k (reaches V L) (columns-at V M F s) (stripe V c s) (content-stripe V L M F c f s ls) (f .fits s ls) i (column-below V L a la)
-        (not-true _ (q .0)) (omega arith) in
+      (not-true _ (q .0)) (omega arith) in
       let d = free .0 in
       let at-a : spread s d a ≡ d i = cond-true _ _ _ (eq-eqb s s refl) in (
         spread s d,
@@ -120,13 +120,13 @@ module _ (V : Shape) (L : Valid V) (M : Members) (F : Frontiers) where
     hands = λ a old e c f. cond-true _ _ _ (ap isOk e) ∙ shares a (length old) e c f;
     agree = λ a e c d fc fd. sym (shares a block-size e c fc) ∙ shares a block-size e d fd;
     answered = λ c f a la agree.
-      ⊎-elim
-      (λ (p : read-lost V M F a ≡ true). let d = lost-differs V L M F a la c f p in absurd (d .2 (agree (d .0) c (d .1) f)))
-      (λ (p : read-lost V M F a ≡ false). cond-true _ _ _ (lt-ltb a (blocks V) la) ∙ cond-false _ _ _ p)
-      (cases-bool (read-lost V M F a));
+        ⊎-elim
+        (λ (p : read-lost V M F a ≡ true). let d = lost-differs V L M F a la c f p in absurd (d .2 (agree (d .0) c (d .1) f)))
+        (λ (p : read-lost V M F a ≡ false). cond-true _ _ _ (lt-ltb a (blocks V) la) ∙ cond-false _ _ _ p)
+        (cases-bool (read-lost V M F a));
     lost = λ c f a len e.
-      let g = lost-by (eqb len block-size) (ltb a (blocks V)) (read-lost V M F a) (with-loss 4 (loss-at V M F (stripe-of V a))) e in
-      lost-differs V L M F a (ltb-true a (blocks V) (g .0)) c f (g .1);
+        let g = lost-by (eqb len block-size) (ltb a (blocks V)) (read-lost V M F a) (with-loss 4 (loss-at V M F (stripe-of V a))) e in
+        lost-differs V L M F a (ltb-true a (blocks V) (g .0)) c f (g .1);
   }
 
 pub reads : Reads

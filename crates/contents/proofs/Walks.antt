@@ -34,14 +34,14 @@ steps-more R i M N O w r =
       begins = was 0 (omega arith) ∙ w .begins;
       ends = last;
       each = λ j l.
-        ⊎-elim
-        (λ (e : j ≡ i).
+          ⊎-elim
+          (λ (e : j ≡ i).
           subst (λ (x : ℕ). R x (at x) (at (x + 1))) (sym e)
           (subst (λ (A : Members). R i A (at (i + 1))) (sym (was i (omega arith) ∙ w .ends)) (subst (λ (A : Members). R i N A) (sym last) r)))
-        (λ (ne : j ≡ i → ⊥).
+          (λ (ne : j ≡ i → ⊥).
           subst (λ (A : Members). R j A (at (j + 1))) (sym (was j (omega arith)))
           (subst (λ (A : Members). R j (w .at j) A) (sym (was (j + 1) (omega arith))) (w .each j (omega arith))))
-        (cases-eq j i);
+          (cases-eq j i);
     }
 
 -- ---- a walk over the slots moves each slot once
@@ -58,8 +58,8 @@ module _ (n : ℕ) (R : ℕ → Meaning → Meaning → Type 0) (M N : Members) 
       ⊎-elim
       (λ (e : j ≡ i). ap (λ (x : ℕ). w .at x j) (sym (add-one i) ∙ ap (λ (x : ℕ). x + 1) (sym e)))
       (λ (ne : j ≡ i → ⊥).
-        subst (λ (x : ℕ). w .at x j ≡ w .at (j + 1) j) (add-one i)
-        (w .each i (omega arith) .others j ne ∙ after i j (omega arith) (omega arith)))
+      subst (λ (x : ℕ). w .at x j ≡ w .at (j + 1) j) (add-one i)
+      (w .each i (omega arith) .others j ne ∙ after i j (omega arith) (omega arith)))
       (cases-eq j i)
 
   pub walk-each : (j : ℕ) → j < n → R j (M j) (N j)

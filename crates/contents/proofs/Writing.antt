@@ -27,6 +27,7 @@ use Rattle.contents.specs.Answers.{write-takes, write-outcome}
 use Rattle.contents.specs.Changes.{Moved, Put, due, new-P, new-Q, Stored, Spread, Write-changes}
 use Rattle.contents.specs.Theorems.{Counts-kept, Writing, Writes}
 use Rattle.contents.proofs.Members.{held-same, due-holds, put-apart, put-count}
+use Rattle.contents.proofs.Storing.{places-apart}
 use Rattle.contents.proofs.Fitting.{fits-cong, column-block, gives, reaches, width, stripe-below, column-below, block-at, content-stripe, recovered-is}
 
 -- ---- one store
@@ -43,7 +44,7 @@ module _ (V : Shape) (M : Members) (F : Frontiers) (s t : ℕ) (v : List ℕ) (A
   store-apart u j l n =
       ⊎-elim
       (λ (e : j ≡ V .place s t).
-        subst (λ (x : ℕ). held B F u x ≡ held A F u x) (sym e) (put-apart A B F _ s u (V .place s t) v (subst (λ (x : ℕ). u < A x .count) e l) n (w .here)))
+      subst (λ (x : ℕ). held B F u x ≡ held A F u x) (sym e) (put-apart A B F _ s u (V .place s t) v (subst (λ (x : ℕ). u < A x .count) e l) n (w .here)))
       (λ (d : j ≡ V .place s t → ⊥). held-same A B F u j (w .others j d))
       (cases-eq j (V .place s t))
 
@@ -61,7 +62,7 @@ module _ (V : Shape) (L : Valid V) (M : Members) (F : Frontiers) (room : Roomy V
 
   -- distinct columns lie on distinct slots
   apart : (t u : ℕ) → t < k + 2 → u < k + 2 → (t ≡ u → ⊥) → V .place s t ≡ V .place s u → ⊥
-  apart t u lt lu n e = let p = L .placed s in n (sym (p .there t (below t lt)) ∙ ap (V .back s) e ∙ p .there u (below u lu))
+  apart = places-apart V L s ls
 
   spread-count : Counts-kept M N
   spread-count j =
@@ -86,7 +87,7 @@ module _ (V : Shape) (L : Valid V) (M : Members) (F : Frontiers) (room : Roomy V
 
   -- the column of a store that starts as the members did
   stored-holds : (t : ℕ) (x : List ℕ) (A B : Members) → t < k + 2 → length x ≡ block-size → Stored V M F s t x A B → A (V .place s t) ≡ M (V .place s t) → N (V .place s t) ≡ B (V .place s t)
-    → Holds (held N F s (V .place s t)) x
+      → Holds (held N F s (V .place s t)) x
   stored-holds t x A B l long st ea eb =
       let i = V .place s t in
       due-holds M N F s i x (roomy t l) long
@@ -139,15 +140,15 @@ module _ (V : Shape) (L : Valid V) (M : Members) (F : Frontiers) (room : Roomy V
     kept : (t : ℕ) → t < k + 2 → Kept (V .code) k (put old c v) c (columns-at V M F s t) (columns-at V N F s t) t
     kept t l =
         elim (kind k t l) [
-          is-data m ↦ ⊎-elim
-            (λ (e : t ≡ c). inl (subst (λ (x : ℕ). Holds (held N F s (V .place s x)) (column (V .code) k (put old c v) x)) (sym e)
+          | is-data m ↦ ⊎-elim
+              (λ (e : t ≡ c). inl (subst (λ (x : ℕ). Holds (held N F s (V .place s x)) (column (V .code) k (put old c v) x)) (sym e)
               (subst (λ (b : List ℕ). Holds (held N F s (V .place s c)) b) (sym (column-data (V .code) k (put old c v) c lc ∙ put-same old c v)) (own-holds (hv .long)))))
-            (λ (n : t ≡ c → ⊥). inr (m, n, held-same M N F s (V .place s t) (spread-other t m n)))
-            (cases-eq t c)
-        | is-P e ↦ inl (subst (λ (x : ℕ). Holds (held N F s (V .place s x)) (column (V .code) k (put old c v) x)) (sym e)
-            (subst (λ (b : List ℕ). Holds (held N F s (V .place s k)) b) P-is (P-holds (ap length P-is ∙ new-block k (omega arith) .long))))
-        | is-Q e ↦ inl (subst (λ (x : ℕ). Holds (held N F s (V .place s x)) (column (V .code) k (put old c v) x)) (sym e)
-            (subst (λ (b : List ℕ). Holds (held N F s (V .place s (k + 1))) b) Q-is (Q-holds (ap length Q-is ∙ new-block (k + 1) (omega arith) .long))))
+              (λ (n : t ≡ c → ⊥). inr (m, n, held-same M N F s (V .place s t) (spread-other t m n)))
+              (cases-eq t c)
+          | is-P e ↦ inl (subst (λ (x : ℕ). Holds (held N F s (V .place s x)) (column (V .code) k (put old c v) x)) (sym e)
+              (subst (λ (b : List ℕ). Holds (held N F s (V .place s k)) b) P-is (P-holds (ap length P-is ∙ new-block k (omega arith) .long))))
+          | is-Q e ↦ inl (subst (λ (x : ℕ). Holds (held N F s (V .place s x)) (column (V .code) k (put old c v) x)) (sym e)
+              (subst (λ (b : List ℕ). Holds (held N F s (V .place s (k + 1))) b) Q-is (Q-holds (ap length Q-is ∙ new-block (k + 1) (omega arith) .long))))
         ]
 
     pub own-fits : Fits (V .code) k (put old c v) (columns-at V N F s)
@@ -178,20 +179,20 @@ module _ (V : Shape) (L : Valid V) (M : Members) (F : Frontiers) (room : Roomy V
   write-fits = record {
     blocks = λ x lx. put-block d a v hv x (f .blocks x lx);
     fits = λ u lu.
-      ⊎-elim
-      (λ (e : u ≡ s).
+        ⊎-elim
+        (λ (e : u ≡ s).
         subst (λ (x : ℕ). Fits (V .code) (data-columns V) (stripe V (put d a v) x) (columns-at V N F x)) (sym e)
         (fits-cong (V .code) (data-columns V) (put (stripe V d s) c v) (stripe V (put d a v) s) (columns-at V N F s) own-stripe
-          (own-fits V L M F room s c (stripe-below V L a la) (column-below V L a la) v N w p hv d f)))
-      (λ (n : u ≡ s → ⊥).
+        (own-fits V L M F room s c (stripe-below V L a la) (column-below V L a la) v N w p hv d f)))
+        (λ (n : u ≡ s → ⊥).
         fits-cong (V .code) (data-columns V) (stripe V d u) (stripe V (put d a v) u) (columns-at V N F u) (other-stripe u n)
         (λ t l.
-          let lt : t < V .slots = (let h = width V L (omega arith) in omega arith) in
-          let j = V .place u t in
-          let r = room j (L .placed u .slot-below t lt) in
-          subst (λ (o : Option (List ℕ)). Holds o (gives V d u t))
-          (sym (spread-apart V L M F room s c (stripe-below V L a la) (column-below V L a la) v N w u j (omega arith) n)) (f .fits u lu t l)))
-      (cases-eq u s);
+        let lt : t < V .slots = (let h = width V L (omega arith) in omega arith) in
+        let j = V .place u t in
+        let r = room j (L .placed u .slot-below t lt) in
+        subst (λ (o : Option (List ℕ)). Holds o (gives V d u t))
+        (sym (spread-apart V L M F room s c (stripe-below V L a la) (column-below V L a la) v N w u j (omega arith) n)) (f .fits u lu t l)))
+        (cases-eq u s);
   }
 
 -- ---- taken unless refused with 2, 3 or 4

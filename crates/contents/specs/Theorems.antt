@@ -39,7 +39,7 @@ pub record Reading (V : Shape) (M : Members) (F : Frontiers) : Type 0 where
   pub answered : (c : ℕ → List ℕ) → Fits-volume V M F c → (a : ℕ) → a < blocks V → Agree-at V M F a → read-outcome V M F a block-size ≡ Ok tt
   -- where a read is refused for loss, beside a content that fits there is another that differs at its block
   pub lost : (c : ℕ → List ℕ) → Fits-volume V M F c → (a len : ℕ) → _≡_ {A = ℕ} (refusal-number (read-outcome V M F a len)) 4
-    → (d : ℕ → List ℕ) × Fits-volume V M F d × (d a ≡ c a → ⊥)
+      → (d : ℕ → List ℕ) × Fits-volume V M F d × (d a ≡ c a → ⊥)
 
 abbrev pub Reads : Type 0
 Reads = (V : Shape) → Valid V → (M : Members) (F : Frontiers) → Reading V M F
@@ -64,7 +64,7 @@ pub record Scrubbing (V : Shape) (M : Members) (F : Frontiers) (s : ℕ) (N : Me
   pub counts : Counts-kept M N
   -- where some content fits, an unreadable column whose member takes the write is current after a taken scrub
   pub mends : (c : ℕ → List ℕ) → Fits-volume V M F c → scrub-takes V M F s ≡ true → (i : ℕ) → i < V .slots → status M F s i ≡ Unreadable → takes (M i) s ≡ true
-    → status N F s i ≡ Current
+      → status N F s i ≡ Current
 
 abbrev pub Scrubs : Type 0
 Scrubs = (V : Shape) → Valid V → (M : Members) (F : Frontiers) → Roomy V M → (s : ℕ) (N : Members) → Scrub-changes V M F s N → Scrubbing V M F s N
@@ -128,9 +128,9 @@ pub record Losing (V : Shape) (M : Members) (F : Frontiers) : Type 0 where
   pub scrub : (s : ℕ) → s < V .stripes → Tells-loss V M F s (scrub-outcome V M F s)
   -- a read that is refused for loss names what is lost, and so does refusal 5, of the members after the write
   pub read : (a len : ℕ) (t : Told) → read-outcome V M F a len ≡ Err t → _≡_ {A = ℕ} (t .number) 4
-    → Three-missing V M F (stripe-of V a) × Names V M F (stripe-of V a) t
+      → Three-missing V M F (stripe-of V a) × Names V M F (stripe-of V a) t
   pub torn : (a len : ℕ) (N : Members) (t : Told) → write-outcome V M F a len N ≡ Err t → _≡_ {A = ℕ} (t .number) 5
-    → Three-missing V N F (stripe-of V a) × Names V N F (stripe-of V a) t
+      → Three-missing V N F (stripe-of V a) × Names V N F (stripe-of V a) t
 
 abbrev pub Losses : Type 0
 Losses = (V : Shape) (M : Members) (F : Frontiers) → Losing V M F
