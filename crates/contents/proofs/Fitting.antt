@@ -1,17 +1,16 @@
 -- What fits, stripe by stripe and slot by slot.
-use mathlib.Core.Path.{_≡_, refl, sym, ap, ap₂, subst, _∙_}
+use mathlib.Core.Path.{_≡_, refl, sym, ap, subst, _∙_}
 use mathlib.Core.List.{List}
-use mathlib.Core.Bool.{Bool, true, false, cond}
+use mathlib.Core.Bool.{false}
 use mathlib.Core.Logic.{⊎-elim}
-use Prim.Native.Nat.{ℕ, _+_, _-_, _*_, _/_, _%_, _<_, _≤_}
+use Prim.Native.Nat.{ℕ, _+_, _-_, _*_, _<_, _≤_}
 use native.Mathlib.Omega.{arith}
 use native.Mathlib.Nat.{div-add-mod' as div-add-mod′}
-use lib.Arith.{digits-lt, digits-div, digits-mod}
+use lib.Arith.{digits-lt}
 use Rattle.std.specs.declared.option.Option.{Option}
-use Rattle.std.specs.declared.option.Option.the-variants.{Some, None}
 use Rattle.std.proofs.shelf.Bits.{div-below, mod-below}
 use Rattle.std.proofs.shelf.Tests.{ltb-false, cases-lt}
-use Rattle.code.specs.Blocks.{Block, zeros, _⊕_, block-size}
+use Rattle.code.specs.Blocks.{Block, zeros, block-size}
 use Rattle.code.specs.Codes.{Coding, Lawful}
 use Rattle.code.proofs.Blocks.{block-zeros, add-self, zeros-zeros}
 use Rattle.parity.specs.Stripe.{Content, column, Holds, Fits}

@@ -1,18 +1,15 @@
 -- The shape that parts make.
-use mathlib.Core.Path.{_≡_, refl, sym, ap, subst, _∙_}
-use mathlib.Core.Bool.{Bool, true, false, cond, _&&_}
+use mathlib.Core.Path.{_≡_, refl, sym, subst}
+use mathlib.Core.Bool.{true, false}
 use mathlib.Core.Logic.{_⊎_, inl, inr, ⊎-elim}
 use Prim.Native.Nat.{ℕ, zero, suc, _+_, _-_, _<_, _≤_, min}
 use native.Mathlib.Omega.{arith}
 use native.Mathlib.Numerals.{add-one}
-use lib.Dec.{ltb, leb}
-use Rattle.std.proofs.shelf.Tests.{cases-bool, cases-eq, cases-lt, cond-true, cond-false, and-parts, leb-true, ltb-true}
-use Rattle.code.specs.Blocks.{block-size}
-use Rattle.code.specs.Codes.{Coding, Lawful}
-use Rattle.layout.specs.Placing.{Placing}
+use lib.Dec.{leb}
+use Rattle.std.proofs.shelf.Tests.{cases-bool, cases-eq, cases-lt, cond-true, cond-false, and-parts, leb-true}
 use Rattle.member.specs.Meaning.{most-blocks}
 use Rattle.contents.specs.Columns.{Members}
-use Rattle.contents.specs.Shapes.{Shape, Valid, Roomy, smallest, fit, shape-of, formed}
+use Rattle.contents.specs.Shapes.{Shape, Valid, Roomy, smallest, fit}
 use Rattle.contents.specs.Theorems.{Smallest-count, Forms}
 
 -- ---- a loop's start and step

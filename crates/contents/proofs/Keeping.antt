@@ -1,7 +1,7 @@
 -- What fits goes on fitting over scrubs and ticks, and zeros fit after formatting.
-use mathlib.Core.Path.{_≡_, refl, sym, ap, ap₂, subst, _∙_}
+use mathlib.Core.Path.{_≡_, refl, sym, ap, subst, _∙_}
 use mathlib.Core.List.{List}
-use mathlib.Core.Bool.{Bool, true, false, cond, _&&_, not}
+use mathlib.Core.Bool.{Bool, true, false, not}
 use mathlib.Core.Logic.{_⊎_, ⊎-elim}
 use Prim.Native.Nat.{ℕ, zero, suc, _+_, _<_, _≤_}
 use native.Mathlib.Omega.{arith}
@@ -11,18 +11,17 @@ use lib.ListN.{length}
 use Rattle.std.specs.Options.{isSome}
 use Rattle.std.specs.declared.option.Option.{Option}
 use Rattle.std.specs.declared.option.Option.the-variants.{Some, None}
-use Rattle.std.proofs.shelf.Tests.{cases-bool, cases-eq, cases-lt, and-parts, not-true, not-false, ltb-true, true≢false, false≢true, cond-true, cond-false}
+use Rattle.std.proofs.shelf.Tests.{cases-bool, cases-eq, cases-lt, and-parts, not-true, ltb-true, true≢false, false≢true}
 use Rattle.code.specs.Blocks.{zeros, block-size}
 use Rattle.code.proofs.Blocks.{block-zeros}
 use Rattle.parity.specs.Stripe.{Holds}
-use Rattle.member.specs.Meaning.{Meaning, write-refusal, put-refusal}
+use Rattle.member.specs.Meaning.{Meaning, write-refusal}
 use Rattle.member.specs.Changes.{Written, Ticked}
-use Rattle.contents.specs.declared.Status.{Status}
-use Rattle.contents.specs.declared.Status.the-variants.{Current, Gone, Behind, Unreadable}
+use Rattle.contents.specs.declared.Status.the-variants.{Current, Unreadable}
 use Rattle.contents.specs.Columns.{Members, Frontiers, status, held, is-unreadable}
 use Rattle.contents.specs.Shapes.{Shape, Valid, Roomy, data-columns, lossy, recovered-at, Fits-volume}
 use Rattle.contents.specs.Answers.{scrub-takes, takes}
-use Rattle.contents.specs.Changes.{Put, Scrubbed, Scrub-changes, Tick-changes, Zeroed, Format-changes}
+use Rattle.contents.specs.Changes.{Put, Scrubbed, Format-changes}
 use Rattle.contents.specs.Theorems.{Counts-kept, Fits-on, Scrubbing, Scrubs, Ticks, Formats}
 use Rattle.contents.proofs.Statuses.{shown, held-is, status-current, unreadable-parts}
 use Rattle.contents.proofs.Members.{written-count, written-gone, written-others, written-present, holds-as, holds-none, holds-either, held-same, held-holds, held-gone, written-holds, put-apart, put-count}

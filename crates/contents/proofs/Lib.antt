@@ -1,4 +1,5 @@
 pub mod Statuses
+pub mod Looks
 pub mod Members
 pub mod Walks
 pub mod Fitting

@@ -1,7 +1,7 @@
 -- A refusal for loss comes exactly when three columns are missing, and its masks name the slots.
 use mathlib.Core.Path.{_≡_, refl, sym, ap, subst, _∙_}
 use mathlib.Core.List.{List, [], _∷_}
-use mathlib.Core.Bool.{Bool, true, false, cond, _&&_, not}
+use mathlib.Core.Bool.{Bool, true, false, cond, not}
 use mathlib.Core.Logic.{_⊎_, inl, inr, ⊎-elim}
 use Prim.Native.Nat.{ℕ, _+_, _<_, _≤_}
 use native.Mathlib.Omega.{arith}
@@ -12,18 +12,18 @@ use Rattle.std.specs.declared.option.Option.{Option}
 use Rattle.std.specs.declared.option.Option.the-variants.{Some, None}
 use Rattle.std.specs.declared.result.Result.{Result}
 use Rattle.std.specs.declared.result.Result.the-variants.{Ok, Err}
-use Rattle.std.proofs.shelf.Tests.{false≢true, true≢false, cases-lt, cond-true, ltb-true, lt-ltb, and-parts}
+use Rattle.std.proofs.shelf.Tests.{false≢true, true≢false, cond-true, ltb-true, lt-ltb, and-parts}
 use Rattle.code.specs.Blocks.{block-size}
 use Rattle.parity.specs.Stripe.{gaps}
 use Rattle.parity.proofs.Gaps.{gaps-first, gaps-in, In}
 use Rattle.contents.specs.declared.Loss.{Loss}
 use Rattle.contents.specs.declared.Status.{Status}
 use Rattle.contents.specs.declared.Status.the-variants.{Current, Gone, Behind, Unreadable}
-use Rattle.contents.specs.Columns.{Members, Frontiers, status, held, is-current, is-gone, is-behind, is-unreadable, mask, loss-of}
+use Rattle.contents.specs.Columns.{Members, Frontiers, status, is-current, is-gone, is-behind, is-unreadable, mask, loss-of}
 use Rattle.contents.specs.Refusals.{Told, plain, with-loss, refusal-number}
 use Rattle.contents.specs.Shapes.{Shape, data-columns, blocks, stripe-of, column-of, columns-at, missing-at, lossy, loss-at}
-use Rattle.contents.specs.Answers.{read-lost, read-outcome, after-write, write-outcome, mended, refused, absent, scrub-outcome}
-use Rattle.contents.specs.Theorems.{Three-missing, bit, Set, Exactly, Names, Tells-loss, Losing, Losses}
+use Rattle.contents.specs.Answers.{read-lost, after-write, mended, refused, absent}
+use Rattle.contents.specs.Theorems.{Three-missing, bit, Exactly, Names, Tells-loss, Losses}
 use Rattle.contents.proofs.Statuses.{current-is}
 use Rattle.contents.proofs.Masks.{mask-bit, set-only, set-if}
 

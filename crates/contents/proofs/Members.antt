@@ -3,21 +3,21 @@ use mathlib.Core.Path.{_≡_, refl, sym, ap, ap₂, subst, _∙_}
 use mathlib.Core.List.{List}
 use mathlib.Core.Bool.{Bool, true, false, cond}
 use mathlib.Core.Logic.{_⊎_, inl, inr, ⊎-elim}
-use Prim.Native.Nat.{ℕ, _<_, _≤_}
+use Prim.Native.Nat.{ℕ, _<_}
 use native.Mathlib.Omega.{arith}
-use lib.Dec.{eqb, ltb}
+use lib.Dec.{ltb}
 use lib.ListN.{length}
 use Rattle.std.specs.declared.option.Option.{Option}
 use Rattle.std.specs.declared.option.Option.the-variants.{Some, None}
-use Rattle.std.proofs.shelf.Tests.{cond-true, cond-false, lt-ltb, eq-eqb, cases-bool, cases-eq, ltb-true}
+use Rattle.std.proofs.shelf.Tests.{cond-true, cond-false, lt-ltb, eq-eqb, cases-bool, cases-eq}
 use Rattle.code.specs.Blocks.{block-size}
 use Rattle.parity.specs.Stripe.{Holds}
 use Rattle.member.specs.Faults.{Refusal}
 use Rattle.member.specs.Meaning.{Meaning, write-refusal, put-refusal}
-use Rattle.member.specs.Changes.{Taken, Spoiled, Written, Ticked}
+use Rattle.member.specs.Changes.{Taken, Spoiled, Written}
 use Rattle.contents.specs.Columns.{Members, Frontiers, held}
 use Rattle.contents.specs.Changes.{Put, due}
-use Rattle.contents.proofs.Statuses.{shown, shown-none, shown-holds, held-is}
+use Rattle.contents.proofs.Statuses.{shown, shown-holds, held-is}
 
 -- ---- a write, by what it is refused with
 

@@ -1,9 +1,9 @@
 -- What a read hands out is what all contents that fit share; where it is refused for loss they share nothing there.
 use mathlib.Core.Path.{_≡_, refl, sym, ap, subst, _∙_}
 use mathlib.Core.List.{List}
-use mathlib.Core.Bool.{Bool, true, false, cond, _&&_, not}
-use mathlib.Core.Logic.{_⊎_, inl, inr, ⊎-elim}
-use Prim.Native.Nat.{ℕ, _+_, _*_, _/_, _%_, _<_, _≤_}
+use mathlib.Core.Bool.{Bool, true, false, cond, not}
+use mathlib.Core.Logic.{_⊎_, ⊎-elim}
+use Prim.Native.Nat.{ℕ, _+_, _*_, _/_, _%_, _<_}
 use native.Mathlib.Omega.{arith}
 use lib.Arith.{digits-div, digits-mod}
 use lib.Dec.{ltb, eqb}
@@ -14,7 +14,7 @@ use Rattle.std.specs.declared.option.Option.{Option}
 use Rattle.std.specs.declared.option.Option.the-variants.{Some, None}
 use Rattle.std.specs.declared.result.Result.{Result}
 use Rattle.std.specs.declared.result.Result.the-variants.{Ok, Err}
-use Rattle.std.proofs.shelf.Tests.{true≢false, false≢true, cases-bool, cases-eq, cond-true, cond-false, cond-both, ltb-true, lt-ltb, eq-eqb, ne-eqb, and-cases, and-parts, not-true}
+use Rattle.std.proofs.shelf.Tests.{true≢false, cases-bool, cases-eq, cond-true, cond-false, cond-both, ltb-true, lt-ltb, eq-eqb, ne-eqb, and-cases, and-parts, not-true}
 use Rattle.code.specs.Blocks.{Block, block-size}
 use Rattle.parity.specs.Stripe.{Holds, Fits}
 use Rattle.parity.specs.Ways.{or-else}
@@ -22,8 +22,8 @@ use Rattle.parity.proofs.Columns.{column-data}
 use Rattle.parity.proofs.Freedom.{free-column}
 use Rattle.contents.specs.Columns.{Members, Frontiers}
 use Rattle.contents.specs.Refusals.{Told, plain, with-loss, refusal-number}
-use Rattle.contents.specs.Shapes.{Shape, Valid, data-columns, blocks, stripe-of, column-of, columns-at, missing-at, lossy, loss-at, recovered-at, stripe, Fits-volume, Agree-at}
-use Rattle.contents.specs.Answers.{read-lost, read-outcome, read-leaves}
+use Rattle.contents.specs.Shapes.{Shape, Valid, data-columns, blocks, stripe-of, column-of, columns-at, missing-at, lossy, loss-at, recovered-at, stripe, Fits-volume}
+use Rattle.contents.specs.Answers.{read-lost, read-outcome}
 use Rattle.contents.specs.Theorems.{Reading, Reads}
 use Rattle.contents.proofs.Fitting.{fits-cong, gives, reaches, stripe-below, column-below, block-at, content-stripe, recovered-is}
 
@@ -117,6 +117,7 @@ module _ (V : Shape) (L : Valid V) (M : Members) (F : Frontiers) where
 
   pub reading : Reading V M F
   reading = record {
+    fits = λ N e c f. subst (λ (A : Members). Fits-volume V A F c) (sym e) f;
     hands = λ a old e c f. cond-true _ _ _ (ap isOk e) ∙ shares a (length old) e c f;
     agree = λ a e c d fc fd. sym (shares a block-size e c fc) ∙ shares a block-size e d fd;
     answered = λ c f a la agree.

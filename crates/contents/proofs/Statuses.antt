@@ -2,7 +2,6 @@
 use mathlib.Core.Path.{_≡_, refl, sym, ap, _∙_}
 use mathlib.Core.List.{List}
 use mathlib.Core.Bool.{Bool, true, false, cond}
-use mathlib.Core.Logic.{_⊎_, inl, inr}
 use Prim.Native.Nat.{ℕ, _<_, _≤_}
 use lib.Dec.{ltb}
 use Rattle.std.specs.Options.{isSome}
@@ -12,7 +11,7 @@ use Rattle.std.proofs.shelf.Tests.{cond-true, cond-false, lt-ltb, le-ltb, false
 use Rattle.parity.specs.Stripe.{Holds}
 use Rattle.contents.specs.declared.Status.{Status}
 use Rattle.contents.specs.declared.Status.the-variants.{Current, Gone, Behind, Unreadable}
-use Rattle.contents.specs.Columns.{Members, Frontiers, status, held, is-current, is-gone, is-behind, is-unreadable}
+use Rattle.contents.specs.Columns.{Members, Frontiers, status, held, is-current, is-unreadable}
 
 -- by gone, below the frontier, and the block
 abbrev pub status-by : Bool → Bool → Option (List ℕ) → Status

@@ -3,16 +3,15 @@ use mathlib.Core.Path.{_≡_, refl, sym, ap, ap₂, subst, _∙_}
 use mathlib.Core.List.{List}
 use mathlib.Core.Bool.{Bool, true, false, cond, _&&_, not}
 use mathlib.Core.Logic.{_⊎_, inl, inr, ⊎-elim}
-use Prim.Native.Nat.{ℕ, _+_, _*_, _/_, _%_, _<_, _≤_}
+use Prim.Native.Nat.{ℕ, _+_, _*_, _/_, _%_, _<_}
 use native.Mathlib.Omega.{arith}
 use lib.Arith.{digits-div, digits-mod}
 use lib.Dec.{ltb, eqb}
 use lib.ListN.{length}
 use Rattle.std.specs.declared.option.Option.{Option}
-use Rattle.std.specs.declared.result.Result.{Result}
 use Rattle.std.specs.declared.result.Result.the-variants.{Ok, Err}
-use Rattle.std.proofs.shelf.Tests.{true≢false, cases-eq, cond-true, cond-false, ltb-true, eqb-true, eq-eqb, ne-eqb, and-parts, not-true}
-use Rattle.code.specs.Blocks.{Bytes, Block, _⊕_, block-size}
+use Rattle.std.proofs.shelf.Tests.{cases-eq, cond-true, cond-false, ltb-true, eqb-true, eq-eqb, ne-eqb, and-parts, not-true}
+use Rattle.code.specs.Blocks.{Block, _⊕_, block-size}
 use Rattle.parity.specs.Stripe.{Content, Holds, Fits, column, put}
 use Rattle.parity.specs.Theorems.{Kept}
 use Rattle.parity.proofs.Columns.{kind, is-data, is-P, is-Q, column-data}
@@ -21,10 +20,10 @@ use Rattle.parity.proofs.Changes.{deltas, writes as stripe-writes}
 use Rattle.member.specs.Meaning.{Meaning}
 use Rattle.contents.specs.declared.Loss.{Loss}
 use Rattle.contents.specs.Columns.{Members, Frontiers, held}
-use Rattle.contents.specs.Refusals.{Told, plain, with-loss, taken}
+use Rattle.contents.specs.Refusals.{plain, with-loss, taken}
 use Rattle.contents.specs.Shapes.{Shape, Valid, Roomy, data-columns, blocks, stripe-of, column-of, columns-at, missing-at, lossy, loss-at, recovered-at, stripe, Fits-volume}
 use Rattle.contents.specs.Answers.{write-takes, write-outcome}
-use Rattle.contents.specs.Changes.{Moved, Put, due, new-P, new-Q, Stored, Spread, Write-changes}
+use Rattle.contents.specs.Changes.{Put, due, new-P, new-Q, Stored, Spread}
 use Rattle.contents.specs.Theorems.{Counts-kept, Writing, Writes}
 use Rattle.contents.proofs.Members.{held-same, due-holds, put-apart, put-count}
 use Rattle.contents.proofs.Storing.{places-apart}

@@ -1,7 +1,7 @@
 -- What the calls on a volume answer, and what a read leaves in its buffer. V is the shape, M the members and F the frontiers before
 -- the call. Checks stand in the order in which they are made.
 use mathlib.Core.List.{List}
-use mathlib.Core.Bool.{Bool, true, false, cond, _&&_, _||_, not}
+use mathlib.Core.Bool.{Bool, cond, _&&_, _||_, not}
 use Prim.Native.Nat.{ℕ, _-_}
 use lib.Dec.{ltb, eqb}
 use lib.ListN.{length}

@@ -1,4 +1,5 @@
--- What holds of every volume: of every lawful code whose limit is reached, every layout, and whatever members do within their rules.
+-- What holds of every volume: for every lawful code, with data columns up to its limit, every layout, and whatever the members do
+-- within their rules.
 use mathlib.Core.Path.{_≡_}
 use mathlib.Core.List.{List}
 use mathlib.Core.Bool.{cond, true}
@@ -32,6 +33,8 @@ Fits-on V M F N = (c : ℕ → List ℕ) → Fits-volume V M F c → Fits-volume
 -- ---- reads
 
 pub record Reading (V : Shape) (M : Members) (F : Frontiers) : Type 0 where
+  -- a read leaves the members, so that every content that fits goes on fitting
+  pub fits : (N : Members) → N ≡ M → Fits-on V M F N
   -- a read that is answered leaves the block of every content that fits
   pub hands : (a : ℕ) (old : List ℕ) → read-outcome V M F a (length old) ≡ Ok tt → (c : ℕ → List ℕ) → Fits-volume V M F c → read-leaves V M F a old ≡ c a
   -- where some content fits, all that fit agree at a block exactly when the read of it into 512 bytes is answered
@@ -49,7 +52,7 @@ Reads = (V : Shape) → Valid V → (M : Members) (F : Frontiers) → Reading V 
 pub record Writing (V : Shape) (M : Members) (F : Frontiers) (a : ℕ) (v : List ℕ) (N : Members) : Type 0 where
   -- the write is taken unless it is refused with 2, 3 or 4
   pub takes : taken (write-outcome V M F a (length v) N) ≡ write-takes V M F a (length v)
-  -- a content that fits before a taken write fits after it with v at block a, and before another as it is
+  -- a content that fits before a taken write fits after it with v at block a; a write that is not taken leaves what fits
   pub fits : (c : ℕ → List ℕ) → Fits-volume V M F c → Fits-volume V N F (cond (write-takes V M F a (length v)) (put c a v) c)
   pub counts : Counts-kept M N
 
