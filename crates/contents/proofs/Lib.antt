@@ -1,0 +1,12 @@
+pub mod Statuses
+pub mod Looks
+pub mod Members
+pub mod Walks
+pub mod Fitting
+pub mod Keeping
+pub mod Reading
+pub mod Storing
+pub mod Writing
+pub mod Masks
+pub mod Losing
+pub mod Forming
