@@ -1,7 +1,7 @@
 -- What fits goes on fitting over scrubs and ticks, and zeros fit after formatting.
 use mathlib.Core.Path.{_≡_, refl, sym, ap, subst, _∙_}
 use mathlib.Core.List.{List}
-use mathlib.Core.Bool.{Bool, true, false, not}
+use mathlib.Core.Bool.{Bool, true, false, cond, _&&_, not}
 use mathlib.Core.Logic.{_⊎_, ⊎-elim}
 use Prim.Native.Nat.{ℕ, zero, suc, _+_, _<_, _≤_}
 use native.Mathlib.Omega.{arith}
@@ -17,14 +17,16 @@ use Rattle.code.proofs.Blocks.{block-zeros}
 use Rattle.parity.specs.Stripe.{Holds}
 use Rattle.member.specs.Meaning.{Meaning, write-refusal}
 use Rattle.member.specs.Changes.{Written, Ticked}
-use Rattle.contents.specs.declared.Status.the-variants.{Current, Unreadable}
-use Rattle.contents.specs.Columns.{Members, Frontiers, status, held, is-unreadable}
+use Rattle.contents.specs.declared.Status.{Status}
+use Rattle.contents.specs.declared.Status.the-variants.{Gone, Behind, Current, Unreadable}
+use Rattle.contents.specs.Columns.{Members, Frontiers, status, held, is-current, is-unreadable, is-absent, count}
 use Rattle.contents.specs.Shapes.{Shape, Valid, Roomy, data-columns, lossy, recovered-at, Fits-volume}
-use Rattle.contents.specs.Answers.{scrub-takes, takes}
+use Rattle.contents.specs.Answers.{scrub-takes, takes, mended, refused, absent}
 use Rattle.contents.specs.Changes.{Put, Scrubbed, Format-changes}
 use Rattle.contents.specs.Theorems.{Counts-kept, Fits-on, Scrubbing, Scrubs, Ticks, Formats}
 use Rattle.contents.proofs.Statuses.{shown, held-is, status-current, unreadable-parts}
 use Rattle.contents.proofs.Members.{written-count, written-gone, written-others, written-present, holds-as, holds-none, holds-either, held-same, held-holds, held-gone, written-holds, put-apart, put-count}
+use Rattle.contents.proofs.Masks.{count-four}
 use Rattle.contents.proofs.Walks.{walk-each, walk-rest}
 use Rattle.contents.proofs.Fitting.{column-zeros, gives, reaches, width, gives-block, recovered-is, by-slot, from-slots}
 
@@ -111,6 +113,21 @@ module _ (V : Shape) (L : Valid V) (M : Members) (F : Frontiers) (room : Roomy V
           (λ (u : is-unreadable (status M F b j) ≡ false). holds-as (held N F b j) (held M F b j) _ (held-same M N F b j (q .kept u)) (by-slot V L M F c f b lb j l))
           (cases-bool (is-unreadable (status M F b j)))
 
+-- a status with a test of the unreadable ones is one of four
+one-of-four : (x : Status) (k : Bool)
+    → cond (is-unreadable x && k) 1 0 + cond (is-unreadable x && not k) 1 0 + cond (is-absent x) 1 0 + cond (is-current x) 1 0 ≡ 1
+one-of-four Current k = omega arith
+one-of-four Gone k = omega arith
+one-of-four Behind k = omega arith
+one-of-four Unreadable true = omega arith
+one-of-four Unreadable false = omega arith
+
+scrub-accounts : (V : Shape) (M : Members) (F : Frontiers) (s : ℕ)
+    → mended V M F s + refused V M F s + absent V M F s + count (λ i. is-current (status M F s i)) (V .slots) ≡ V .slots
+scrub-accounts V M F s =
+    count-four (λ i. is-unreadable (status M F s i) && takes (M i) s) (λ i. is-unreadable (status M F s i) && not (takes (M i) s)) (λ i. is-absent (status M F s i))
+    (λ i. is-current (status M F s i)) (λ i. one-of-four (status M F s i) (takes (M i) s)) (V .slots)
+
 pub scrubs : Scrubs
 scrubs V L M F room s N h = go (scrub-takes V M F s) refl
   where
@@ -120,12 +137,13 @@ scrubs V L M F room s N h = go (scrub-takes V M F s) refl
         let p = and-parts (ltb s (V .stripes)) (not (lossy V M F s)) e in
         let ls : s < V .stripes = ltb-true s (V .stripes) (p .0) in
         let q : lossy V M F s ≡ false = not-true (lossy V M F s) (p .1) in
-        record { fits = scrub-fits V L M F room s N w ls q; counts = scrub-counts V L M F room s N w; mends = λ c f _. scrub-mends V L M F room s N w ls q c f }
+        record { fits = scrub-fits V L M F room s N w ls q; accounts = scrub-accounts V M F s; counts = scrub-counts V L M F room s N w; mends = λ c f _. scrub-mends V L M F room s N w ls q c f }
     go false e =
         let same = h .refused e in
         record {
           fits = λ c f. subst (λ (A : Members). Fits-volume V A F c) (sym same) f;
           counts = λ i. ap (λ (A : Members). A i .count) same;
+          accounts = scrub-accounts V M F s;
           mends = λ c f t. absurd (true≢false (sym t ∙ e));
         }
 

@@ -29,6 +29,16 @@ count-le p (suc n) =
     let h = count-le p n in
     ⊎-elim (λ (q : p n ≡ true). rw q (omega arith)) (λ (q : p n ≡ false). rw q (omega arith)) (cases-bool (p n))
 
+-- four tests of which each number below n has exactly one
+pub count-four : (p q r t : ℕ → Bool) → ((i : ℕ) → cond (p i) 1 0 + cond (q i) 1 0 + cond (r i) 1 0 + cond (t i) 1 0 ≡ 1) → (n : ℕ)
+    → count p n + count q n + count r n + count t n ≡ n
+unfolding count
+count-four p q r t h zero = omega arith
+count-four p q r t h (suc n) =
+    let a = count-four p q r t h n in
+    let b = h n in
+    omega arith
+
 pub mask-none : (p : ℕ → Bool) → mask p 0 ≡ 0
 unfolding mask
 mask-none p = refl

@@ -16,10 +16,10 @@ use Rattle.layout.specs.Placing.{Placing}
 use Rattle.member.specs.Meaning.{most-blocks}
 use Rattle.contents.specs.declared.Status.{Status}
 use Rattle.contents.specs.declared.Status.the-variants.{Current, Gone, Behind, Unreadable}
-use Rattle.contents.specs.Columns.{Members, Frontiers, status, held}
+use Rattle.contents.specs.Columns.{Members, Frontiers, status, held, is-current, count}
 use Rattle.contents.specs.Refusals.{Told, refusal-number, taken}
 use Rattle.contents.specs.Shapes.{Shape, Valid, Roomy, data-columns, blocks, stripe-of, columns-at, Fits-volume, Agree-at, smallest, formed}
-use Rattle.contents.specs.Answers.{read-outcome, read-leaves, write-takes, write-outcome, scrub-takes, scrub-outcome, takes}
+use Rattle.contents.specs.Answers.{read-outcome, read-leaves, write-takes, write-outcome, scrub-takes, mended, refused, absent, scrub-outcome, takes}
 use Rattle.contents.specs.Changes.{Write-changes, Scrub-changes, Tick-changes, Format-changes}
 
 -- every member keeps its count of blocks
@@ -65,6 +65,8 @@ Writes = (V : Shape) → Valid V → (M : Members) (F : Frontiers) → Roomy V M
 pub record Scrubbing (V : Shape) (M : Members) (F : Frontiers) (s : ℕ) (N : Members) : Type 0 where
   pub fits : Fits-on V M F N
   pub counts : Counts-kept M N
+  -- mended, refused and absent columns, and those that were current, are all columns, each counted once
+  pub accounts : mended V M F s + refused V M F s + absent V M F s + count (λ i. is-current (status M F s i)) (V .slots) ≡ V .slots
   -- where some content fits, an unreadable column whose member takes the write is current after a taken scrub
   pub mends : (c : ℕ → List ℕ) → Fits-volume V M F c → scrub-takes V M F s ≡ true → (i : ℕ) → i < V .slots → status M F s i ≡ Unreadable → takes (M i) s ≡ true
       → status N F s i ≡ Current
