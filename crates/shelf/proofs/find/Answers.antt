@@ -8,28 +8,6 @@ use Rattle.shelf.specs.Shelves.{part, span}
 use Rattle.shelf.proofs.Shelves.{room, part-count, block-found, block-beyond}
 use Rattle.shelf.proofs.find.Needs as need
 
-pub returns-then-block-min : need.returns-then-block-min
-returns-then-block-min c =
-    let xs = c .args .run .now in
-    let count = part-count xs (c .args .images) (c .args .slot) (c .if-slot-images .left) in
-    let high : image-meaning (part xs (c .args .images) (c .args .slot)) .count ≤ c .args .block = omega (arith, count, c .min .ensures) in
-    record {
-      answered = sym (block-beyond xs (c .args .images) (c .args .slot) (c .args .block) (c .args .size) (c .if-slot-images .left) (c .if-size-ne-BLOCK .left) high);
-      found = tt;
-    }
-
-pub mul-start-2 : need.mul-start-2
-mul-start-2 c =
-    let fit = room (c .args .run .now) (c .args .images) (c .args .slot) (c .if-slot-images .left) in
-    let small : c .args .slot * span (c .args .run .now) (c .args .images) < 2 ^ 64 = omega (arith, fit) in
-    search needs
-
-pub add-result : need.add-result
-add-result c =
-    let fit = room (c .args .run .now) (c .args .images) (c .args .slot) (c .if-slot-images .left) in
-    let small : c .args .slot * span (c .args .run .now) (c .args .images) + span (c .args .run .now) (c .args .images) < 2 ^ 64 = omega (arith, fit) in
-    search needs
-
 pub returns : need.returns
 returns c =
     let xs = c .args .run .now in
@@ -52,3 +30,25 @@ returns c =
         sized = c .if-size-ne-BLOCK .left;
       };
     }
+
+pub returns-then-block-min : need.returns-then-block-min
+returns-then-block-min c =
+    let xs = c .args .run .now in
+    let count = part-count xs (c .args .images) (c .args .slot) (c .if-slot-images .left) in
+    let high : image-meaning (part xs (c .args .images) (c .args .slot)) .count ≤ c .args .block = omega (arith, count, c .min .ensures) in
+    record {
+      answered = sym (block-beyond xs (c .args .images) (c .args .slot) (c .args .block) (c .args .size) (c .if-slot-images .left) (c .if-size-ne-BLOCK .left) high);
+      found = tt;
+    }
+
+pub mul-start-2 : need.mul-start-2
+mul-start-2 c =
+    let fit = room (c .args .run .now) (c .args .images) (c .args .slot) (c .if-slot-images .left) in
+    let small : c .args .slot * span (c .args .run .now) (c .args .images) < 2 ^ 64 = omega (arith, fit) in
+    search needs
+
+pub add-result : need.add-result
+add-result c =
+    let fit = room (c .args .run .now) (c .args .images) (c .args .slot) (c .if-slot-images .left) in
+    let small : c .args .slot * span (c .args .run .now) (c .args .images) + span (c .args .run .now) (c .args .images) < 2 ^ 64 = omega (arith, fit) in
+    search needs
