@@ -17,7 +17,7 @@ mod tables;
 // How many data columns the code can have: 2 has 255 distinct powers.
 const LIMIT: usize = 255;
 
-// 2 to the power k.
+// 2 to the power k: exponents count modulo 255.
 fn power_of(k: usize) -> u8
     ensures value { λ r. ⌜ r ≡ power k ⌝ }
 {
@@ -79,6 +79,7 @@ pub impl Code for Pq as PqCode {
         if j >= LIMIT {
             return Err(CodeRefusal::Column);
         }
+        // 2 to the power 255 is 1, so the power 255 - j undoes the power j.
         scale(power_of(255 - j), buffer);
         Ok(())
     }

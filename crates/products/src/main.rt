@@ -56,6 +56,7 @@ fn table_of_products(heap: Global) -> Result<String, AllocError>
     Ok(text)
 }
 
+// Prints the whole table at once.
 fn main(rt: LibcRuntime) -> io::Result<()> {
     let text = table_of_products(rt.alloc())?;
     print!(rt, "{text}")
