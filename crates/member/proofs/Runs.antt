@@ -36,18 +36,18 @@ use Rattle.member.proofs.Outcomes.{taken-way, good-write, good-checked, checke
 abbrev pub Low : List ℕ → Type 0
 Low xs = (i : ℕ) → getD xs i 0 < 256
 
-low-take : (n : ℕ) (xs : List ℕ) → Low xs → Low (take n xs)
+pub low-take : (n : ℕ) (xs : List ℕ) → Low xs → Low (take n xs)
 low-take zero xs h i = lit< tt
 low-take (suc n) [] h i = lit< tt
 low-take (suc n) (x ∷ xs) h zero = h 0
 low-take (suc n) (x ∷ xs) h (suc i) = low-take n xs (λ j. h (suc j)) i
 
-low-drop : (n : ℕ) (xs : List ℕ) → Low xs → Low (drop n xs)
+pub low-drop : (n : ℕ) (xs : List ℕ) → Low xs → Low (drop n xs)
 low-drop zero xs h i = h i
 low-drop (suc n) [] h i = lit< tt
 low-drop (suc n) (x ∷ xs) h i = low-drop n xs (λ j. h (suc j)) i
 
-low-append : (xs ys : List ℕ) → Low xs → Low ys → Low (xs ++ ys)
+pub low-append : (xs ys : List ℕ) → Low xs → Low ys → Low (xs ++ ys)
 low-append [] ys h k i = k i
 low-append (x ∷ xs) ys h k zero = h 0
 low-append (x ∷ xs) ys h k (suc i) = low-append xs ys (λ j. h (suc j)) k i
