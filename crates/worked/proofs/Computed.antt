@@ -21,4 +21,5 @@ worked-cases = record {
   rdp-row-15 = λ f. simp xor-zero-r;
   evenodd-row-0 = λ f. simp xor-zero-r;
   evenodd-all-rows = λ f. refl;
+  rotating-column-4 = refl;
 }

@@ -1,4 +1,4 @@
--- The worked cases of the rules, said of the definitions that the codes' contracts cite.
+-- The worked cases of the rules, said of the definitions that the contracts of the codes and layouts cite.
 use mathlib.Core.Path.{_≡_}
 use mathlib.Core.List.{List}
 use mathlib.Core.Bool.{cond, _||_}
@@ -8,6 +8,7 @@ use lib.ListN.{replicate}
 use Rattle.std.specs.declared.option.Option.{Option}
 use Rattle.std.specs.declared.option.Option.the-variants.{Some, None}
 use Rattle.code.specs.Blocks.{block-size}
+use Rattle.layout.specs.Placing.{rotated}
 use Rattle.field.specs.Field.{times, power}
 use Rattle.field.specs.Mixing.{pq}
 use Rattle.parity.specs.Stripe.{column}
@@ -57,3 +58,5 @@ pub record Worked-cases : Type 0 where
   -- EVENODD: with only row 0 filled, mixing 0 has row 0, and mixing 16 has all rows
   pub evenodd-row-0 : (f : ℕ → ℕ) → evenodd 17 32 .mix 0 (row 0 f) ≡ row 0 f
   pub evenodd-all-rows : (f : ℕ → ℕ) → evenodd 17 32 .mix 16 (row 0 f) ≡ all-rows f
+  -- the rotating layout: with 6 slots, column 4 of stripe 5 is on slot 3
+  pub rotating-column-4 : rotated 6 5 4 ≡ 3
