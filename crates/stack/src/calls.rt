@@ -32,6 +32,13 @@ pub(crate) enum Call {
     Fresh,
 }
 
+// A line of a table: a heading, which says why the lines below it are as they are, or a call on the member in a slot.
+#[derive(Clone, Copy)]
+pub(crate) enum Step {
+    Why(&'static str),
+    On(usize, Call),
+}
+
 // Appends the answer of a call: 0, or the fault's cause, height and block.
 fn push_answer(out: &mut String, answer: Result<(), BankFault>) -> Result<(), AnyError>
     ensures made { λ r. ⌜ made r (λ _. string-bytes (now (out .exit)) ≡ string-bytes (now (out .entry)) ++ answer-text (bank-refusal answer)) ⌝ }
@@ -167,27 +174,18 @@ fn push_call<B: Bank>(
     }
 }
 
-// Makes the calls under a heading.
-pub(crate) fn run<B: Bank>(
-    heap: Global,
-    out: &mut String,
-    bank: &mut B,
-    heading: &str,
-    calls: &[(usize, Call)],
-) -> Result<(), AnyError> {
-    push_heading(out, heading)?;
-    drive(heap, out, bank, calls)
-}
-
-// Makes the calls in turn, each on the member in its slot, and appends a line for each.
+// Makes the calls in turn, each on the member in its slot, and appends a line for each, and the headings between them.
 pub(crate) fn drive<B: Bank>(
     heap: Global,
     out: &mut String,
     bank: &mut B,
-    calls: &[(usize, Call)],
+    steps: &[Step],
 ) -> Result<(), AnyError> {
-    for (slot, call) in calls {
-        push_call(heap, out, bank, *slot, *call)?;
+    for step in steps {
+        match *step {
+            Step::Why(heading) => push_heading(out, heading)?,
+            Step::On(slot, call) => push_call(heap, out, bank, slot, call)?,
+        }
     }
     Ok(())
 }
