@@ -1,4 +1,6 @@
 // What every code shares: blocks of 512 bytes, their exclusive or, the interface of a code and its refusals.
+#![tactic(auto)]
+
 ghost use Rattle.std.specs.Prelude.{◌≡◌, ℕ, ◌&&◌, is_ok, if◌then◌else◌};
 ghost use Rattle.code.specs.Blocks.{◌⊕◌, block_size};
 ghost use Rattle.code.specs.Codes.{Coding, Lawful};

@@ -1,4 +1,5 @@
 // Replays the script that standard input holds and prints its lines.
+#![tactic(auto)]
 use recorder::replay;
 use std::io::Read;
 

@@ -1,5 +1,6 @@
 // Drives stacks of layers, and banks of them, through every kind of answer, and prints a line for each call. The lines that it has to
 // print were worked out by hand from the rules; each heading says from which.
+#![tactic(auto)]
 
 mod banks;
 mod builds;

@@ -5,5 +5,5 @@ use Rattle.code.proofs.xor.xor_into.Goals as goal
 pub returns : goal.returns
 returns c = record {
   answered = search rules;
-  after = c.xor-run.ensures.after ∙ onto_same c.args.into.now c.args.block.now (omega arith);
+  after = c.xor_run.ensures.after ∙ onto_same c.args.into.now c.args.block.now (omega arith);
 }
