@@ -24,7 +24,7 @@ MADE = re.compile(
 )
 WORD = re.compile(r"[^\s(){}\[\],;:.\"«»|↦]+")
 SIGNATURE = re.compile(r"^(?:(?:abbrev|unfoldable|pub|mutual)\s+)*(?:(record|data|ruleset)\s+)?(\S+)(?=\s|$)")
-FIELD = re.compile(r"^\s+(?:pub\s+)?([^\s(){}]+) :(?=\s)")
+FIELD = re.compile(r"^\s+(?:(?:abbrev|unfoldable|pub)\s+)*([^\s(){}]+) :(?=\s|$)")
 
 
 def antt(kind):
@@ -32,7 +32,7 @@ def antt(kind):
 
 
 def own_names(path):
-    """The names that a file of definitions or lemmas makes: top-level ones, and fields and constructors."""
+    """The names that a file of definitions or lemmas makes: top-level ones, fields and constructors, and those of an inner module."""
     text = open(path, encoding="utf-8").read()
     inside = False
     for line in text.split("\n"):
@@ -40,7 +40,7 @@ def own_names(path):
             continue
         if not line[0].isspace():
             words = line.split()
-            inside = "record" in words[:3] or "data" in words[:3]
+            inside = "record" in words[:3] or "data" in words[:3]  # else only a name with a dash is looked at
             if words[0] in ("use", "pub") and len(words) > 1 and words[1] in ("use", "mod"):
                 continue
             if words[0] in ("use", "mod", "infixl", "infixr", "infix", "unfolding", "open"):
@@ -48,9 +48,9 @@ def own_names(path):
             m = SIGNATURE.match(line)
             if m and (" : " in line or line.rstrip().endswith(" :") or m.group(1)):
                 yield m.group(2)
-        elif inside:
+        else:
             m = FIELD.match(line)
-            if m:
+            if m and (inside or "-" in m.group(1)):
                 yield m.group(1)
 
 
@@ -59,7 +59,7 @@ def respelled(name):
         return OTHERWISE[name]
     name = name.replace("getD", "get_or").replace("′", "'")
     parts = name.split("-")
-    if parts[0][:1].isupper():
+    if parts[0][:1].isupper() and len(parts[0]) > 1:
         return "".join(p[:1].upper() + p[1:] for p in parts)
     return "_".join(parts)
 

@@ -20,13 +20,13 @@ less_one i = omega arith
 
 -- ---- what the rest answers is what the chain answers one slot further
 module _ (m : Meaning) (ms : Slots) (b : ℕ) where
-  pub on-rest : (f : Meaning → Option Refusal) (i : ℕ) → (i ≢ 0) → on_slot ms (i - 1) b f ≡ on_slot (linked_slots m ms) i b f
-  on-rest f zero ne = absurd (ne refl)
-  on-rest f (suc i) ne = ap (λ k. on_slot ms k b f) (less_one i) ∙ ap (λ x. cond x (f (ms.member i)) (Some (no_slot b))) (ltb_next i ms.size)
+  pub on_rest : (f : Meaning → Option Refusal) (i : ℕ) → (i ≢ 0) → on_slot ms (i - 1) b f ≡ on_slot (linked_slots m ms) i b f
+  on_rest f zero ne = absurd (ne refl)
+  on_rest f (suc i) ne = ap (λ k. on_slot ms k b f) (less_one i) ∙ ap (λ x. cond x (f (ms.member i)) (Some (no_slot b))) (ltb_next i ms.size)
 
-  pub handed-rest : (old : List ℕ) (i : ℕ) → (i ≢ 0) → slot_handed ms (i - 1) b old ≡ slot_handed (linked_slots m ms) i b old
-  handed-rest old zero ne = absurd (ne refl)
-  handed-rest old (suc i) ne = ap (λ k. slot_handed ms k b old) (less_one i) ∙ ap (λ x. cond x (handed (ms.member i) b old) old) (ltb_next i ms.size)
+  pub handed_rest : (old : List ℕ) (i : ℕ) → (i ≢ 0) → slot_handed ms (i - 1) b old ≡ slot_handed (linked_slots m ms) i b old
+  handed_rest old zero ne = absurd (ne refl)
+  handed_rest old (suc i) ne = ap (λ k. slot_handed ms k b old) (less_one i) ∙ ap (λ x. cond x (handed (ms.member i) b old) old) (ltb_next i ms.size)
 
 -- ---- a change of the rest is a change of the chain one slot further
 pub change_rest : {S T : Type 0} (f : S → S) (g : T → ℕ → T) (s : S) (t u : T) (i : ℕ) → (i ≢ 0) → u ≡ g t (i - 1)
@@ -35,37 +35,37 @@ change_rest f g s t u zero ne e = absurd (ne refl)
 change_rest f g s t u (suc i) ne e = ap (linked s) (e ∙ ap (g t) (less_one i))
 
 module _ (R : Meaning → Meaning → Type 0) (m : Meaning) (ms ns : Slots) where
-  kept-rest : (i : ℕ) → Changed R ms i ns → (k : ℕ) → (k ≢ suc i) → before m ns.member k ≡ before m ms.member k
-  kept-rest i h zero ne = refl
-  kept-rest i h (suc k) ne = h.others k (λ e. ne (ap suc e))
+  kept_rest : (i : ℕ) → Changed R ms i ns → (k : ℕ) → (k ≢ suc i) → before m ns.member k ≡ before m ms.member k
+  kept_rest i h zero ne = refl
+  kept_rest i h (suc k) ne = h.others k (λ e. ne (ap suc e))
 
-  changed-next : (i : ℕ) → Changed R ms i ns → Changed R (linked_slots m ms) (suc i) (linked_slots m ns)
-  changed-next i h = record {
+  changed_next : (i : ℕ) → Changed R ms i ns → Changed R (linked_slots m ms) (suc i) (linked_slots m ns)
+  changed_next i h = record {
     size = ap suc h.size;
     here = λ lt. h.here (omega arith);
-    others = kept-rest i h;
+    others = kept_rest i h;
     beyond = λ le. ap (linked_slots m) (h.beyond (omega arith));
   }
 
-  pub changed-rest : (i : ℕ) → (i ≢ 0) → Changed R ms (i - 1) ns → Changed R (linked_slots m ms) i (linked_slots m ns)
-  changed-rest zero ne h = absurd (ne refl)
-  changed-rest (suc i) ne h = changed-next i (subst (λ k. Changed R ms k ns) (less_one i) h)
+  pub changed_rest : (i : ℕ) → (i ≢ 0) → Changed R ms (i - 1) ns → Changed R (linked_slots m ms) i (linked_slots m ns)
+  changed_rest zero ne h = absurd (ne refl)
+  changed_rest (suc i) ne h = changed_next i (subst (λ k. Changed R ms k ns) (less_one i) h)
 
 module _ (R : Meaning → Meaning → Type 0) (m n : Meaning) (ms : Slots) where
-  kept-first : (k : ℕ) → (k ≢ 0) → before n ms.member k ≡ before m ms.member k
-  kept-first zero ne = absurd (ne refl)
-  kept-first (suc k) ne = refl
+  kept_first : (k : ℕ) → (k ≢ 0) → before n ms.member k ≡ before m ms.member k
+  kept_first zero ne = absurd (ne refl)
+  kept_first (suc k) ne = refl
 
-  changed-first : R m n → Changed R (linked_slots m ms) 0 (linked_slots n ms)
-  changed-first h = record { size = refl; here = λ _. h; others = kept-first; beyond = λ le. absurd (omega arith) }
+  changed_first : R m n → Changed R (linked_slots m ms) 0 (linked_slots n ms)
+  changed_first h = record { size = refl; here = λ _. h; others = kept_first; beyond = λ le. absurd (omega arith) }
 
 -- ---- the laws, from those of the first member and of the rest
 module _ {S T : Type 0} {P : S → Type 0} {Q : T → Type 0} (m : S → Meaning) (ms : T → Slots) where
   changes : (R : Meaning → Meaning → Type 0) (f : S → S) (g : T → ℕ → T) → ((s : S) → P s → R (m s) (m (f s)))
       → ((t : T) (k : ℕ) → Q t → Changed R (ms t) k (ms (g t k))) → (s : Linked S T) (i : ℕ) → LinkedSound P Q s
       → Changed R (linked_meaning m ms s) i (linked_meaning m ms (linked_change f g s i))
-  changes R f g hf hg s zero h = changed-first R (m s.first) (m (f s.first)) (ms s.rest) (hf s.first h.first)
-  changes R f g hf hg s (suc i) h = changed-next R (m s.first) (ms s.rest) (ms (g s.rest i)) i (hg s.rest i h.rest)
+  changes R f g hf hg s zero h = changed_first R (m s.first) (m (f s.first)) (ms s.rest) (hf s.first h.first)
+  changes R f g hf hg s (suc i) h = changed_next R (m s.first) (ms s.rest) (ms (g s.rest i)) i (hg s.rest i h.rest)
 
   keeps : (f : S → S) (g : T → ℕ → T) → ((s : S) → P s → m (f s) ≡ m s) → ((t : T) (k : ℕ) → Q t → ms (g t k) ≡ ms t)
       → (s : Linked S T) (i : ℕ) → LinkedSound P Q s → linked_meaning m ms (linked_change f g s i) ≡ linked_meaning m ms s
@@ -84,11 +84,11 @@ module _ {S T : Type 0} {P : S → Type 0} {Q : T → Type 0} (m : S → Meaning
 
 module _ {S T : Type 0} {P : S → Type 0} {m : S → Meaning} {mseen : S → ℕ → ℕ → S} {mwrote : S → ℕ → List ℕ → S} {mticked mrenewed : S → S}
     {Q : T → Type 0} {ms : T → Slots} {bseen : T → ℕ → ℕ → ℕ → T} {bwrote : T → ℕ → ℕ → List ℕ → T} {bticked brenewed : T → ℕ → T} where
-  pub linked-lawful : Member-lawful P m mseen mwrote mticked mrenewed → Lawful Q ms bseen bwrote bticked brenewed
+  pub linked_lawful : Member-lawful P m mseen mwrote mticked mrenewed → Lawful Q ms bseen bwrote bticked brenewed
       → Lawful (λ s. LinkedSound P Q s) (λ s. linked_meaning m ms s) (λ s i b n. linked_change (λ x. mseen x b n) (λ x k. bseen x k b n) s i)
       (λ s i b v. linked_change (λ x. mwrote x b v) (λ x k. bwrote x k b v) s i)
       (λ s i. linked_change mticked bticked s i) (λ s i. linked_change mrenewed brenewed s i)
-  linked-lawful L K = record {
+  linked_lawful L K = record {
     means = sounds m ms L.means K.means;
     sees = λ s i b n h. keeps m ms (λ x. mseen x b n) (λ x k. bseen x k b n) (λ x p. L.sees x b n p) (λ x k q. K.sees x k b n q) s i h;
     writes = λ s i b v h. changes m ms (λ x y. Written x b v y) (λ x. mwrote x b v) (λ x k. bwrote x k b v) (λ x p. L.writes x b v p)

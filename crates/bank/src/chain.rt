@@ -1,7 +1,7 @@
 // A bank of members one before the other, each of a kind of its own: any member before any bank.
 ghost use Rattle.std.specs.Prelude.{◌≡◌};
 ghost use Rattle.bank.specs.Chains.{linked, Linked, LinkedSound, linked_meaning, linked_change};
-ghost use Rattle.bank.specs.ChainsLemmas.{linked-lawful};
+ghost use Rattle.bank.specs.ChainsLemmas.{linked_lawful};
 ghost use Rattle.std.proofs.Common.{rules};
 
 use crate::{Bank, BankFault, lifted};
@@ -33,7 +33,7 @@ impl<M: Member, B: Bank> Bank for Link<M, B> {
 
     ghost holds = { Prim.search rules };
 
-    ghost lawful = { linked-lawful M.Member.lawful B.Bank.lawful };
+    ghost lawful = { linked_lawful M.Member.lawful B.Bank.lawful };
 
     fn len(&self) -> usize {
         self.rest.len().saturating_add(1)

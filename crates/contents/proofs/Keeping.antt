@@ -13,11 +13,11 @@ use Rattle.contents.specs.Shapes.{Shape, Valid, Roomy, data_columns, lossy, reco
 use Rattle.contents.specs.Answers.{scrub_takes, takes, mended, refused, absent}
 use Rattle.contents.specs.Changes.{Put, Scrubbed, FormatChanges}
 use Rattle.contents.specs.Theorems.{CountsKept, FitsOn, Scrubbing, Scrubs, Ticks, Formats}
-use Rattle.contents.proofs.Statuses.{shown, held-is, status-current, unreadable-parts}
-use Rattle.contents.proofs.Members.{written_count, written_gone, written_others, written-present, holds_as, holds_none, holds_either, held_same, held-holds, held-gone, written-holds, put_apart, put_count}
+use Rattle.contents.proofs.Statuses.{shown, held_is, status_current, unreadable_parts}
+use Rattle.contents.proofs.Members.{written_count, written_gone, written_others, written_present, holds_as, holds_none, holds_either, held_same, held_holds, held_gone, written_holds, put_apart, put_count}
 use Rattle.contents.proofs.Masks.{count_four}
-use Rattle.contents.proofs.Walks.{walk-each, walk-rest}
-use Rattle.contents.proofs.Fitting.{column-zeros, gives, reaches, width, gives-block, recovered-is, by-slot, from-slots}
+use Rattle.contents.proofs.Walks.{walk_each, walk_rest}
+use Rattle.contents.proofs.Fitting.{column_zeros, gives, reaches, width, gives_block, recovered_is, by_slot, from_slots}
 
 -- what holds of each slot below n, and trivially of the others, holds of all
 counts_of : (n : ℕ) (M N : Members) → ((j : ℕ) → j < n → (N j).count ≡ (M j).count) → ((j : ℕ) → n ≤ j → N j ≡ M j) → CountsKept M N
@@ -37,51 +37,51 @@ shown_fewer false false true o (Some v) k f b x = subst (λ (y : Option (List �
 
 pub ticks : Ticks
 ticks V L M F room N w =
-    let each = walk-each V.slots (λ _. Ticked) M N w in (
+    let each = walk_each V.slots (λ _. Ticked) M N w in (
       (λ c f. record {
         blocks = f.blocks;
-        fits = λ s ls. from-slots V L N F c s ls (λ j l.
+        fits = λ s ls. from_slots V L N F c s ls (λ j l.
             let t = each j l in
-            holds_as (held N F s j) _ _ (held-is N F s j)
+            holds_as (held N F s j) _ _ (held_is N F s j)
             (shown_fewer (M j).gone (N j).gone (ltb s (F j)) ((M j).block s) ((N j).block s) t.gone (λ v e. t.blocks s v (let r = room j l in omega arith) e) _
-            (holds_as _ (held M F s j) _ (sym (held-is M F s j)) (by-slot V L M F c f s ls j l))));
+            (holds_as _ (held M F s j) _ (sym (held_is M F s j)) (by_slot V L M F c f s ls j l))));
       }),
-      counts_of V.slots M N (λ j l. (each j l).level.count) (walk-rest V.slots (λ _. Ticked) M N w),
+      counts_of V.slots M N (λ j l. (each j l).level.count) (walk_rest V.slots (λ _. Ticked) M N w),
     )
 
 -- ---- scrubs
 module _ (V : Shape) (L : Valid V) (M : Members) (F : Frontiers) (room : Roomy V M) (b : ℕ) (N : Members) (w : Scrubbed V M F b N) where
-  scrub-each : (j : ℕ) → j < V.slots → Put (is_unreadable (status M F b j)) b (recovered_at V M F b (V.back b j)) (M j) (N j)
-  scrub-each = walk-each V.slots (λ i. Put (is_unreadable (status M F b i)) b (recovered_at V M F b (V.back b i))) M N w
+  scrub_each : (j : ℕ) → j < V.slots → Put (is_unreadable (status M F b j)) b (recovered_at V M F b (V.back b j)) (M j) (N j)
+  scrub_each = walk_each V.slots (λ i. Put (is_unreadable (status M F b i)) b (recovered_at V M F b (V.back b i))) M N w
 
-  scrub-counts : CountsKept M N
-  scrub-counts =
-      counts_of V.slots M N (λ j l. put_count _ b _ (M j) (N j) (scrub-each j l))
-      (walk-rest V.slots (λ i. Put (is_unreadable (status M F b i)) b (recovered_at V M F b (V.back b i))) M N w)
+  scrub_counts : CountsKept M N
+  scrub_counts =
+      counts_of V.slots M N (λ j l. put_count _ b _ (M j) (N j) (scrub_each j l))
+      (walk_rest V.slots (λ i. Put (is_unreadable (status M F b i)) b (recovered_at V M F b (V.back b i))) M N w)
 
   -- a column that was unreadable and whose member took the write
-  scrub-mends : b < V.stripes → lossy V M F b ≡ false → (c : ℕ → List ℕ) → FitsVolume V M F c → (j : ℕ) → j < V.slots → status M F b j ≡ Unreadable → takes (M j) b ≡ true
+  scrub_mends : b < V.stripes → lossy V M F b ≡ false → (c : ℕ → List ℕ) → FitsVolume V M F c → (j : ℕ) → j < V.slots → status M F b j ≡ Unreadable → takes (M j) b ≡ true
       → status N F b j ≡ Current
-  scrub-mends lb p c f j l u k =
+  scrub_mends lb p c f j l u k =
       let t = V.back b j in
       let lt : t < data_columns V + 2 = (let h = (L.placed b).column_below j l in let w = width V L (omega arith) in omega arith) in
-      let is : recovered_at V M F b t ≡ gives V c b t = recovered-is V L M F c f b lb p t lt in
-      let long : length (recovered_at V M F b t) ≡ block_size = ap length is ∙ (gives-block V L M F c f b lb t lt).long in
-      let parts = unreadable-parts M F b j (ap is_unreadable u) in
+      let is : recovered_at V M F b t ≡ gives V c b t = recovered_is V L M F c f b lb p t lt in
+      let long : length (recovered_at V M F b t) ≡ block_size = ap length is ∙ (gives_block V L M F c f b lb t lt).long in
+      let parts = unreadable_parts M F b j (ap is_unreadable u) in
       let none : write_refusal (M j) b block_size ≡ None = none_of _ (not-true _ k) in
-      let x = ((scrub-each j l).written (ap is_unreadable u)).accepted (ap (write_refusal (M j) b) long ∙ none) in
-      status-current N F b j (x.gone ∙ parts.0) (ltb-true b (F j) parts.1) (ap is_some x.here)
+      let x = ((scrub_each j l).written (ap is_unreadable u)).accepted (ap (write_refusal (M j) b) long ∙ none) in
+      status_current N F b j (x.gone ∙ parts.0) (ltb-true b (F j) parts.1) (ap is_some x.here)
     where
       none_of : {A : Type 0} (o : Option A) → is_some o ≡ false → o ≡ None
       none_of None e = refl
       none_of (Some y) e = absurd (true≢false e)
 
-  scrub-fits : b < V.stripes → lossy V M F b ≡ false → FitsOn V M F N
-  scrub-fits lb p c f = record {
+  scrub_fits : b < V.stripes → lossy V M F b ≡ false → FitsOn V M F N
+  scrub_fits lb p c f = record {
     blocks = f.blocks;
-    fits = λ s ls. from-slots V L N F c s ls (λ j l.
-        let q = scrub-each j l in
-        let old = by-slot V L M F c f s ls j l in
+    fits = λ s ls. from_slots V L N F c s ls (λ j l.
+        let q = scrub_each j l in
+        let old = by_slot V L M F c f s ls j l in
         let r = room j l in
         ⊎_elim
         (λ (e : s ≡ b). subst (λ (x : ℕ). Holds (held N F x j) (gives V c x (V.back x j))) (sym e) (anew c f lb j l))
@@ -93,13 +93,13 @@ module _ (V : Shape) (L : Valid V) (M : Members) (F : Frontiers) (room : Roomy V
       anew c f lb j l =
           let t = V.back b j in
           let lt : t < data_columns V + 2 = (let h = (L.placed b).column_below j l in let w = width V L (omega arith) in omega arith) in
-          let is : recovered_at V M F b t ≡ gives V c b t = recovered-is V L M F c f b lb p t lt in
-          let q = scrub-each j l in
+          let is : recovered_at V M F b t ≡ gives V c b t = recovered_is V L M F c f b lb p t lt in
+          let q = scrub_each j l in
           ⊎_elim
           (λ (u : is_unreadable (status M F b j) ≡ true).
           subst (λ (v : List ℕ). Holds (held N F b j) v) is
-          (written-holds M N F b j (recovered_at V M F b t) (let r = room j l in omega arith) (ap length is ∙ (gives-block V L M F c f b lb t lt).long) (q.written u)))
-          (λ (u : is_unreadable (status M F b j) ≡ false). holds_as (held N F b j) (held M F b j) _ (held_same M N F b j (q.kept u)) (by-slot V L M F c f b lb j l))
+          (written_holds M N F b j (recovered_at V M F b t) (let r = room j l in omega arith) (ap length is ∙ (gives_block V L M F c f b lb t lt).long) (q.written u)))
+          (λ (u : is_unreadable (status M F b j) ≡ false). holds_as (held N F b j) (held M F b j) _ (held_same M N F b j (q.kept u)) (by_slot V L M F c f b lb j l))
           (cases_Bool (is_unreadable (status M F b j)))
 
 -- a status with a test of the unreadable ones is one of four
@@ -126,7 +126,7 @@ scrubs V L M F room s N h = go (scrub_takes V M F s) refl
         let p = and_parts (ltb s V.stripes) (not (lossy V M F s)) e in
         let ls : s < V.stripes = ltb-true s V.stripes p.0 in
         let q : lossy V M F s ≡ false = not-true (lossy V M F s) p.1 in
-        record { fits = scrub-fits V L M F room s N w ls q; accounts = scrub_accounts V M F s; counts = scrub-counts V L M F room s N w; mends = λ c f _. scrub-mends V L M F room s N w ls q c f }
+        record { fits = scrub_fits V L M F room s N w ls q; accounts = scrub_accounts V M F s; counts = scrub_counts V L M F room s N w; mends = λ c f _. scrub_mends V L M F room s N w ls q c f }
     go false e =
         let same = h.refused e in
         record {
@@ -143,47 +143,47 @@ abbrev ZeroAt : Meaning → ℕ → Type 0
 ZeroAt m s = m.gone ≡ false → Holds (m.block s) zeros
 
 zero_here : (m : Meaning) (s : ℕ) (n : Meaning) → s < m.count → Written m s zeros n → ZeroAt n s
-zero_here m s n l w g = holds_either (n.block s) zeros (written-present m s zeros n l block_zeros.long w (sym (written_gone m s zeros n w) ∙ g))
+zero_here m s n l w g = holds_either (n.block s) zeros (written_present m s zeros n l block_zeros.long w (sym (written_gone m s zeros n w) ∙ g))
 
 zero_kept : (m : Meaning) (b s : ℕ) (n : Meaning) → s < m.count → (s ≡ b → ⊥) → Written m b zeros n → ZeroAt m s → ZeroAt n s
 zero_kept m b s n l ne w z g =
     subst (λ (o : Option (List ℕ)). Holds o zeros) (sym (written_others m b zeros n w s l ne)) (z (sym (written_gone m b zeros n w) ∙ g))
 
 module _ (V : Shape) (M : Members) (room : Roomy V M) (N : Members) (w : FormatChanges V M N) where
-  zero-each : (s : ℕ) → s < V.stripes → (j : ℕ) → j < V.slots → Written (w.at s j) s zeros (w.at (s + 1) j)
-  zero-each s l = walk-each V.slots (λ _ m n. Written m s zeros n) (w.at s) (w.at (s + 1)) (w.each s l)
+  zero_each : (s : ℕ) → s < V.stripes → (j : ℕ) → j < V.slots → Written (w.at s j) s zeros (w.at (s + 1) j)
+  zero_each s l = walk_each V.slots (λ _ m n. Written m s zeros n) (w.at s) (w.at (s + 1)) (w.each s l)
 
-  counts-at : (t : ℕ) → t ≤ V.stripes → CountsKept M (w.at t)
-  counts-at zero l j = ap (λ (A : Members). (A j).count) w.begins
-  counts-at (suc t) l j =
+  counts_at : (t : ℕ) → t ≤ V.stripes → CountsKept M (w.at t)
+  counts_at zero l j = ap (λ (A : Members). (A j).count) w.begins
+  counts_at (suc t) l j =
       subst (λ (x : ℕ). (w.at x j).count ≡ (M j).count) (add-one t)
-      (counts_of V.slots (w.at t) (w.at (t + 1)) (λ i m. written_count (w.at t i) t zeros (w.at (t + 1) i) (zero-each t (omega arith) i m))
-      (walk-rest V.slots (λ _ m n. Written m t zeros n) (w.at t) (w.at (t + 1)) (w.each t (omega arith))) j
-      ∙ counts-at t (omega arith) j)
+      (counts_of V.slots (w.at t) (w.at (t + 1)) (λ i m. written_count (w.at t i) t zeros (w.at (t + 1) i) (zero_each t (omega arith) i m))
+      (walk_rest V.slots (λ _ m n. Written m t zeros n) (w.at t) (w.at (t + 1)) (w.each t (omega arith))) j
+      ∙ counts_at t (omega arith) j)
 
-  zeros-at : (t : ℕ) → t ≤ V.stripes → (j : ℕ) → j < V.slots → (s : ℕ) → s < t → ZeroAt (w.at t j) s
-  zeros-at zero l j lj s ls = absurd (omega arith)
-  zeros-at (suc t) l j lj s ls =
-      let x = zero-each t (omega arith) j lj in
-      let room-t : s < (w.at t j).count = (let r = room j lj in let k = counts-at t (omega arith) j in omega arith) in
+  zeros_at : (t : ℕ) → t ≤ V.stripes → (j : ℕ) → j < V.slots → (s : ℕ) → s < t → ZeroAt (w.at t j) s
+  zeros_at zero l j lj s ls = absurd (omega arith)
+  zeros_at (suc t) l j lj s ls =
+      let x = zero_each t (omega arith) j lj in
+      let room-t : s < (w.at t j).count = (let r = room j lj in let k = counts_at t (omega arith) j in omega arith) in
       subst (λ (y : ℕ). ZeroAt (w.at y j) s) (add-one t)
       (⊎_elim
       (λ (e : s ≡ t). subst (λ (y : ℕ). ZeroAt (w.at (t + 1) j) y) (sym e) (zero_here (w.at t j) t (w.at (t + 1) j) (subst (λ (y : ℕ). y < (w.at t j).count) e room-t) x))
-      (λ (ne : s ≡ t → ⊥). zero_kept (w.at t j) t s (w.at (t + 1) j) room-t ne x (zeros-at t (omega arith) j lj s (omega arith)))
+      (λ (ne : s ≡ t → ⊥). zero_kept (w.at t j) t s (w.at (t + 1) j) room-t ne x (zeros_at t (omega arith) j lj s (omega arith)))
       (cases_eq s t))
 
 pub formats : Formats
 formats V L M F room N w = (
   record {
     blocks = λ a l. block_zeros;
-    fits = λ s ls. from-slots V L N F (λ _. zeros) s ls (λ j l.
+    fits = λ s ls. from_slots V L N F (λ _. zeros) s ls (λ j l.
         let lt : V.back s j < data_columns V + 2 = (let h = (L.placed s).column_below j l in let w = width V L (omega arith) in omega arith) in
-        let z : ZeroAt (N j) s = subst (λ (A : Members). ZeroAt (A j) s) w.ends (zeros-at V M room N w V.stripes (omega arith) j l s ls) in
-        subst (λ (v : List ℕ). Holds (held N F s j) v) (sym (column-zeros V.code L.lawful (data_columns V) (reaches V L) (V.back s j) lt))
+        let z : ZeroAt (N j) s = subst (λ (A : Members). ZeroAt (A j) s) w.ends (zeros_at V M room N w V.stripes (omega arith) j l s ls) in
+        subst (λ (v : List ℕ). Holds (held N F s j) v) (sym (column_zeros V.code L.lawful (data_columns V) (reaches V L) (V.back s j) lt))
         (⊎_elim
-        (λ (g : (N j).gone ≡ true). holds_none (held N F s j) zeros (held-gone N N F s j g))
-        (λ (g : (N j).gone ≡ false). held-holds N N F s j zeros (z g))
+        (λ (g : (N j).gone ≡ true). holds_none (held N F s j) zeros (held_gone N N F s j g))
+        (λ (g : (N j).gone ≡ false). held_holds N N F s j zeros (z g))
         (cases_Bool (N j).gone)));
   },
-  subst (λ (A : Members). CountsKept M A) w.ends (counts-at V M room N w V.stripes (omega arith)),
+  subst (λ (A : Members). CountsKept M A) w.ends (counts_at V M room N w V.stripes (omega arith)),
 )

@@ -37,8 +37,8 @@ module _ (m : Meaning) (s : ℕ) (l : s < m.count) where
   pub look_none : look_refusal m s ≡ None → (m.gone ≡ false) × (is_some (m.block s) ≡ true)
   look_none e = none_by m.gone (m.block s) (m.gone_origin s) (m.unreadable_origin s) (sym look_is ∙ e)
 
-  pub look-gone : (r : Refusal) → look_refusal m s ≡ Some r → r.cause ≡ 1 → m.gone ≡ true
-  look-gone r e = gone_by m.gone (m.block s) (m.gone_origin s) (m.unreadable_origin s) r (sym look_is ∙ e)
+  pub look_gone : (r : Refusal) → look_refusal m s ≡ Some r → r.cause ≡ 1 → m.gone ≡ true
+  look_gone r e = gone_by m.gone (m.block s) (m.gone_origin s) (m.unreadable_origin s) r (sym look_is ∙ e)
 
-  pub look-unreadable : (r : Refusal) → look_refusal m s ≡ Some r → (r.cause ≡ 1 → ⊥) → (m.gone ≡ false) × (is_some (m.block s) ≡ false)
-  look-unreadable r e = unreadable_by m.gone (m.block s) (m.gone_origin s) (m.unreadable_origin s) r (sym look_is ∙ e)
+  pub look_unreadable : (r : Refusal) → look_refusal m s ≡ Some r → (r.cause ≡ 1 → ⊥) → (m.gone ≡ false) × (is_some (m.block s) ≡ false)
+  look_unreadable r e = unreadable_by m.gone (m.block s) (m.gone_origin s) (m.unreadable_origin s) r (sym look_is ∙ e)

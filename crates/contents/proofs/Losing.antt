@@ -12,7 +12,7 @@ use Rattle.contents.specs.Refusals.{Told, plain, with_loss, refusal_number}
 use Rattle.contents.specs.Shapes.{Shape, data_columns, blocks, stripe_of, column_of, columns_at, missing_at, lossy, loss_at}
 use Rattle.contents.specs.Answers.{read_lost, after_write, mended, refused, absent}
 use Rattle.contents.specs.Theorems.{ThreeMissing, bit, Exactly, Names, TellsLoss, Losses}
-use Rattle.contents.proofs.Statuses.{current-is}
+use Rattle.contents.proofs.Statuses.{current_is}
 use Rattle.contents.proofs.Masks.{mask_bit, set_only, set_if}
 
 -- ---- the masks name the slots
@@ -86,7 +86,7 @@ module _ (V : Shape) (M : Members) (F : Frontiers) (s : ℕ) where
         (⊎_elim
         (λ (h : has is_behind i ≡ true). inr (inl (set_if (has is_behind) V.slots i l h)))
         (λ (h : has is_unreadable i ≡ true). inr (inr (set_if (has is_unreadable) V.slots i l h))))
-        (one_cause (status M F s i) (sym (current-is M F s i) ∙ ap is_some e));
+        (one_cause (status M F s i) (sym (current_is M F s i) ∙ ap is_some e));
     once = once;
   }
 
@@ -108,8 +108,8 @@ three_in t u w (i ∷ (j ∷ [])) a b x y z = let x' = two_of x in let y' = two_
 three_in t u w (i ∷ (j ∷ (l ∷ g))) a b x y z = omega arith
 
 module _ (V : Shape) (M : Members) (F : Frontiers) (s : ℕ) where
-  pub three-lossy : ThreeMissing V M F s → lossy V M F s ≡ true
-  three-lossy h =
+  pub three_lossy : ThreeMissing V M F s → lossy V M F s ≡ true
+  three_lossy h =
       let (t, u, w, tu, uw, wn, et, eu, ew) = h in
       let n = data_columns V + 2 in
       lt-ltb 2 (missing_at V M F s)
@@ -118,8 +118,8 @@ module _ (V : Shape) (M : Members) (F : Frontiers) (s : ℕ) where
       (gaps_in (columns_at V M F s) n u (omega arith) (ap is_some eu))
       (gaps_in (columns_at V M F s) n w wn (ap is_some ew)))
 
-  pub lossy-three : lossy V M F s ≡ true → ThreeMissing V M F s
-  lossy-three p = go (gaps (columns_at V M F s) (data_columns V + 2)) refl
+  pub lossy_three : lossy V M F s ≡ true → ThreeMissing V M F s
+  lossy_three p = go (gaps (columns_at V M F s) (data_columns V + 2)) refl
     where
       go : (g : List ℕ) → gaps (columns_at V M F s) (data_columns V + 2) ≡ g → ThreeMissing V M F s
       go [] e = let h = ltb-true 2 _ p in let z = ap length e in absurd (omega (arith, h, z))
@@ -137,13 +137,13 @@ module _ (V : Shape) (M : Members) (F : Frontiers) (s : ℕ) where
     where
       go : (x : Bool) → lossy V M F s ≡ x → TellsLoss V M F s {U = U} (cond x (Err (with_loss 4 (loss_at V M F s))) r)
       go true e = record {
-        only = λ _. lossy-three e;
+        only = λ _. lossy_three e;
         always = λ _. refl;
         names = λ t q _. let d : with_loss 4 (loss_at V M F s) ≡ t = cc in subst (λ (x : Told). Names V M F s x) d (names V M F s 4);
       }
       go false e = record {
         only = λ q. absurd (n q);
-        always = λ h. absurd (true≢false (sym (three-lossy h) ∙ e));
+        always = λ h. absurd (true≢false (sym (three_lossy h) ∙ e));
         names = λ t q m. absurd (n (ap refusal_number q ∙ m));
       }
 
@@ -186,9 +186,9 @@ losses V M F = record {
   read = λ a len t e n.
       let s = stripe_of V a in
       let r = read_refused (eqb len block_size) (ltb a (blocks V)) (read_lost V M F a) (with_loss 4 (loss_at V M F s)) t e n in
-      (lossy-three V M F s (and_parts (not (is_some (columns_at V M F s (column_of V a)))) (lossy V M F s) r.0).1, subst (λ (x : Told). Names V M F s x) r.1 (names V M F s 4));
+      (lossy_three V M F s (and_parts (not (is_some (columns_at V M F s (column_of V a)))) (lossy V M F s) r.0).1, subst (λ (x : Told). Names V M F s x) r.1 (names V M F s 4));
   torn = λ a len N t e n.
       let s = stripe_of V a in
       let r = write_torn (eqb len block_size) (ltb a (blocks V)) (lossy V M F s) (lossy V N F s) (loss_at V M F s) (loss_at V N F s) (missing_at V N F s) t e n in
-      (lossy-three V N F s r.0, subst (λ (x : Told). Names V N F s x) r.1 (names V N F s 5));
+      (lossy_three V N F s r.0, subst (λ (x : Told). Names V N F s x) r.1 (names V N F s 5));
 }

@@ -8,7 +8,7 @@ use Rattle.member.specs.Meaning.{Meaning, write_refusal, put_refusal}
 use Rattle.member.specs.Changes.{Taken, Spoiled, Written}
 use Rattle.contents.specs.Columns.{Members, Frontiers, held}
 use Rattle.contents.specs.Changes.{Put, due}
-use Rattle.contents.proofs.Statuses.{shown, shown_holds, held-is}
+use Rattle.contents.proofs.Statuses.{shown, shown_holds, held_is}
 
 -- ---- a write, by what it is refused with
 
@@ -40,19 +40,19 @@ written_others m b v n w u l ne =
 
 -- a block written to a block that there is
 module _ (m : Meaning) (b : ℕ) (v : List ℕ) (n : Meaning) (l : b < m.count) (long : length v ≡ block_size) where
-  pub write-refusal-is : write_refusal m b (length v) ≡ put_refusal m b
-  write-refusal-is = cond-true _ _ _ (eq-eqb (length v) block_size long) ∙ cond-true _ _ _ (lt-ltb b m.count l)
+  pub write_refusal_is : write_refusal m b (length v) ≡ put_refusal m b
+  write_refusal_is = cond-true _ _ _ (eq-eqb (length v) block_size long) ∙ cond-true _ _ _ (lt-ltb b m.count l)
 
   -- a member that is gone keeps its meaning
-  pub written-absent : Written m b v n → m.gone ≡ true → n ≡ m
-  written-absent w g = w.refused _ (write-refusal-is ∙ cond-true _ _ _ g) (λ (e : ◌≡◌ {A = ℕ} 1 3). omega arith)
+  pub written_absent : Written m b v n → m.gone ≡ true → n ≡ m
+  written_absent w g = w.refused _ (write_refusal_is ∙ cond-true _ _ _ g) (λ (e : ◌≡◌ {A = ℕ} 1 3). omega arith)
 
   -- a present one holds v there, or the block is unreadable
-  pub written-present : Written m b v n → m.gone ≡ false → (n.block b ≡ Some v) ⊎ (n.block b ≡ None)
-  written-present w g =
+  pub written_present : Written m b v n → m.gone ≡ false → (n.block b ≡ Some v) ⊎ (n.block b ≡ None)
+  written_present w g =
       ⊎_elim
-      (λ (t : m.writable b ≡ true). inl (w.accepted (write-refusal-is ∙ cond-false _ _ _ g ∙ cond-true _ _ _ t)).here)
-      (λ (t : m.writable b ≡ false). inr (w.unwritable _ (write-refusal-is ∙ cond-false _ _ _ g ∙ cond-false _ _ _ t) refl).here)
+      (λ (t : m.writable b ≡ true). inl (w.accepted (write_refusal_is ∙ cond-false _ _ _ g ∙ cond-true _ _ _ t)).here)
+      (λ (t : m.writable b ≡ false). inr (w.unwritable _ (write_refusal_is ∙ cond-false _ _ _ g ∙ cond-false _ _ _ t) refl).here)
       (cases_Bool (m.writable b))
 
 -- ---- columns
@@ -67,32 +67,32 @@ holds_either o v h = ⊎_elim (λ (e : o ≡ Some v). holds_as o (Some v) v e re
 
 module _ (M N : Members) (F : Frontiers) (s i : ℕ) where
   pub held_same : N i ≡ M i → held N F s i ≡ held M F s i
-  held_same e = held-is N F s i ∙ ap (λ (m : Meaning). shown m.gone (ltb s (F i)) (m.block s)) e ∙ sym (held-is M F s i)
+  held_same e = held_is N F s i ∙ ap (λ (m : Meaning). shown m.gone (ltb s (F i)) (m.block s)) e ∙ sym (held_is M F s i)
 
   pub held_by : (N i).gone ≡ (M i).gone → (N i).block s ≡ (M i).block s → held N F s i ≡ held M F s i
-  held_by g e = held-is N F s i ∙ ap₂ (λ (x : Bool) (o : Option (List ℕ)). shown x (ltb s (F i)) o) g e ∙ sym (held-is M F s i)
+  held_by g e = held_is N F s i ∙ ap₂ (λ (x : Bool) (o : Option (List ℕ)). shown x (ltb s (F i)) o) g e ∙ sym (held_is M F s i)
 
   -- a column whose block holds v, if anything
-  pub held-holds : (v : List ℕ) → Holds ((N i).block s) v → Holds (held N F s i) v
-  held-holds v h = holds_as (held N F s i) _ v (held-is N F s i) (shown_holds (N i).gone (ltb s (F i)) ((N i).block s) v h)
+  pub held_holds : (v : List ℕ) → Holds ((N i).block s) v → Holds (held N F s i) v
+  held_holds v h = holds_as (held N F s i) _ v (held_is N F s i) (shown_holds (N i).gone (ltb s (F i)) ((N i).block s) v h)
 
-  pub held-gone : (N i).gone ≡ true → held N F s i ≡ None
-  held-gone g = held-is N F s i ∙ cond-true _ _ _ g
+  pub held_gone : (N i).gone ≡ true → held N F s i ≡ None
+  held_gone g = held_is N F s i ∙ cond-true _ _ _ g
 
   -- v was written to the column
-  pub written-holds : (v : List ℕ) → s < (M i).count → length v ≡ block_size → Written (M i) s v (N i) → Holds (held N F s i) v
-  written-holds v l long w =
+  pub written_holds : (v : List ℕ) → s < (M i).count → length v ≡ block_size → Written (M i) s v (N i) → Holds (held N F s i) v
+  written_holds v l long w =
       ⊎_elim
-      (λ (g : (M i).gone ≡ true). holds_none _ v (held-gone (written_gone (M i) s v (N i) w ∙ g)))
-      (λ (g : (M i).gone ≡ false). held-holds v (holds_either ((N i).block s) v (written-present (M i) s v (N i) l long w g)))
+      (λ (g : (M i).gone ≡ true). holds_none _ v (held_gone (written_gone (M i) s v (N i) w ∙ g)))
+      (λ (g : (M i).gone ≡ false). held_holds v (holds_either ((N i).block s) v (written_present (M i) s v (N i) l long w g)))
       (cases_Bool (M i).gone)
 
   -- v was written where it is due: the column holds v or is missing
-  pub due-holds : (v : List ℕ) → s < (M i).count → length v ≡ block_size → Put (due M F s i) s v (M i) (N i) → Holds (held N F s i) v
-  due-holds v l long p =
+  pub due_holds : (v : List ℕ) → s < (M i).count → length v ≡ block_size → Put (due M F s i) s v (M i) (N i) → Holds (held N F s i) v
+  due_holds v l long p =
       ⊎_elim
-      (λ (d : due M F s i ≡ true). written-holds v l long (p.written d))
-      (λ (d : due M F s i ≡ false). holds_none _ v (held_same (p.kept d) ∙ held-is M F s i ∙ not_due (M i).gone (ltb s (F i)) ((M i).block s) d))
+      (λ (d : due M F s i ≡ true). written_holds v l long (p.written d))
+      (λ (d : due M F s i ≡ false). holds_none _ v (held_same (p.kept d) ∙ held_is M F s i ∙ not_due (M i).gone (ltb s (F i)) ((M i).block s) d))
       (cases_Bool (due M F s i))
     where
       not_due : (g b : Bool) (o : Option (List ℕ)) → cond g false b ≡ false → shown g b o ≡ None

@@ -42,32 +42,32 @@ unreadable_by false true None e = (refl, refl, refl)
 unreadable_by false true (Some x) e = absurd (false≢true e)
 
 module _ (M : Members) (F : Frontiers) (s i : ℕ) where
-  pub status-is : status M F s i ≡ status_by (M i).gone (ltb s (F i)) ((M i).block s)
+  pub status_is : status M F s i ≡ status_by (M i).gone (ltb s (F i)) ((M i).block s)
   unfolding status
-  status-is = refl
+  status_is = refl
 
-  pub held-is : held M F s i ≡ shown (M i).gone (ltb s (F i)) ((M i).block s)
+  pub held_is : held M F s i ≡ shown (M i).gone (ltb s (F i)) ((M i).block s)
   unfolding held status
-  held-is = shown_is (M i).gone (ltb s (F i)) ((M i).block s)
+  held_is = shown_is (M i).gone (ltb s (F i)) ((M i).block s)
 
   -- a column holds bytes exactly where it is current
-  pub current-is : is_some (held M F s i) ≡ is_current (status M F s i)
+  pub current_is : is_some (held M F s i) ≡ is_current (status M F s i)
   unfolding held status
-  current-is = current_by (M i).gone (ltb s (F i)) ((M i).block s)
+  current_is = current_by (M i).gone (ltb s (F i)) ((M i).block s)
 
   -- ---- each status, from what a look tells
-  pub status-gone : (M i).gone ≡ true → status M F s i ≡ Gone
-  status-gone g = status-is ∙ cond-true _ _ _ g
+  pub status_gone : (M i).gone ≡ true → status M F s i ≡ Gone
+  status_gone g = status_is ∙ cond-true _ _ _ g
 
-  pub status-behind : (M i).gone ≡ false → F i ≤ s → status M F s i ≡ Behind
-  status-behind g l = status-is ∙ cond-false _ _ _ g ∙ cond-false _ _ _ (le-ltb s (F i) l)
+  pub status_behind : (M i).gone ≡ false → F i ≤ s → status M F s i ≡ Behind
+  status_behind g l = status_is ∙ cond-false _ _ _ g ∙ cond-false _ _ _ (le-ltb s (F i) l)
 
-  pub status-unreadable : (M i).gone ≡ false → s < F i → is_some ((M i).block s) ≡ false → status M F s i ≡ Unreadable
-  status-unreadable g l o = status-is ∙ cond-false _ _ _ g ∙ cond-true _ _ _ (lt-ltb s (F i) l) ∙ cond-false _ _ _ o
+  pub status_unreadable : (M i).gone ≡ false → s < F i → is_some ((M i).block s) ≡ false → status M F s i ≡ Unreadable
+  status_unreadable g l o = status_is ∙ cond-false _ _ _ g ∙ cond-true _ _ _ (lt-ltb s (F i) l) ∙ cond-false _ _ _ o
 
-  pub status-current : (M i).gone ≡ false → s < F i → is_some ((M i).block s) ≡ true → status M F s i ≡ Current
-  status-current g l o = status-is ∙ cond-false _ _ _ g ∙ cond-true _ _ _ (lt-ltb s (F i) l) ∙ cond-true _ _ _ o
+  pub status_current : (M i).gone ≡ false → s < F i → is_some ((M i).block s) ≡ true → status M F s i ≡ Current
+  status_current g l o = status_is ∙ cond-false _ _ _ g ∙ cond-true _ _ _ (lt-ltb s (F i) l) ∙ cond-true _ _ _ o
 
   -- an unreadable column has a present member and lies below the frontier
-  pub unreadable-parts : is_unreadable (status M F s i) ≡ true → ((M i).gone ≡ false) × (ltb s (F i) ≡ true) × ((M i).block s ≡ None)
-  unreadable-parts u = unreadable_by (M i).gone (ltb s (F i)) ((M i).block s) (sym (ap is_unreadable status-is) ∙ u)
+  pub unreadable_parts : is_unreadable (status M F s i) ≡ true → ((M i).gone ≡ false) × (ltb s (F i) ≡ true) × ((M i).block s ≡ None)
+  unreadable_parts u = unreadable_by (M i).gone (ltb s (F i)) ((M i).block s) (sym (ap is_unreadable status_is) ∙ u)

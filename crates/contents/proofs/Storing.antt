@@ -7,15 +7,15 @@ use Rattle.member.specs.Changes.{Written}
 use Rattle.contents.specs.Columns.{Members, Frontiers}
 use Rattle.contents.specs.Shapes.{Shape, Valid, data_columns}
 use Rattle.contents.specs.Changes.{Moved, Put, due, new_P, new_Q, Stored, Spread}
-use Rattle.contents.proofs.Members.{written-absent}
+use Rattle.contents.proofs.Members.{written_absent}
 use Rattle.contents.proofs.Fitting.{width}
 
 module _ (M : Members) (F : Frontiers) (s i : ℕ) (v : List ℕ) where
   -- a write was made, to a slot whose frontier is above s: a member that is gone kept its meaning
-  pub put-made : (n : Meaning) → s < F i → s < (M i).count → length v ≡ block_size → Written (M i) s v n → Put (due M F s i) s v (M i) n
-  put-made n above l long w = record {
+  pub put_made : (n : Meaning) → s < F i → s < (M i).count → length v ≡ block_size → Written (M i) s v n → Put (due M F s i) s v (M i) n
+  put_made n above l long w = record {
     written = λ _. w;
-    kept = λ d. written-absent (M i) s v n l long w (gone_of (M i).gone (ltb s (F i)) (lt-ltb s (F i) above) d);
+    kept = λ d. written_absent (M i) s v n l long w (gone_of (M i).gone (ltb s (F i)) (lt-ltb s (F i) above) d);
   }
     where
       gone_of : (g b : Bool) → b ≡ true → cond g false b ≡ false → g ≡ true
@@ -23,8 +23,8 @@ module _ (M : Members) (F : Frontiers) (s i : ℕ) (v : List ℕ) where
       gone_of false b e d = absurd (true≢false (sym e ∙ d))
 
   -- no write was made, since the frontier is not above s
-  pub put-skipped : F i ≤ s → Put (due M F s i) s v (M i) (M i)
-  put-skipped low = record { written = λ d. absurd (true≢false (sym d ∙ not_due (M i).gone (ltb s (F i)) (le-ltb s (F i) low))); kept = λ _. refl }
+  pub put_skipped : F i ≤ s → Put (due M F s i) s v (M i) (M i)
+  put_skipped low = record { written = λ d. absurd (true≢false (sym d ∙ not_due (M i).gone (ltb s (F i)) (le-ltb s (F i) low))); kept = λ _. refl }
     where
       not_due : (g b : Bool) → b ≡ false → cond g false b ≡ false
       not_due true b e = refl
@@ -55,11 +55,11 @@ spread_of V L M A B N F s c v p q ls lc ep eq x y z =
       after_own = A;
       after_P = B;
       own = x;
-      P = as-met M A A B k p (new_P V M F s c v) old-P ep y;
-      Q = as-met M B B N (k + 1) q (new_Q V M F s c v) old-Q eq z;
+      P = as_met M A A B k p (new_P V M F s c v) old-P ep y;
+      Q = as_met M B B N (k + 1) q (new_Q V M F s c v) old-Q eq z;
     }
   where
-    as-met : (M A X Y : Members) (t : ℕ) (b d : List ℕ) → A (V.place s t) ≡ M (V.place s t) → b ≡ d → Stored V A F s t b X Y → Stored V M F s t d X Y
-    as-met M A X Y t b d e f w =
+    as_met : (M A X Y : Members) (t : ℕ) (b d : List ℕ) → A (V.place s t) ≡ M (V.place s t) → b ≡ d → Stored V A F s t b X Y → Stored V M F s t d X Y
+    as_met M A X Y t b d e f w =
         subst (λ (x : List ℕ). Stored V M F s t x X Y) f
         (subst (λ (g : Bool). Moved (Put g s b) (V.place s t) X Y) (due_same M A F s (V.place s t) e) w)

@@ -56,10 +56,10 @@ module _ (n : ℕ) (R : ℕ → Meaning → Meaning → Type 0) (M N : Members) 
       ((w.each i (omega arith)).others j ne ∙ after i j (omega arith) (omega arith)))
       (cases_eq j i)
 
-  pub walk-each : (j : ℕ) → j < n → R j (M j) (N j)
-  walk-each j l =
+  pub walk_each : (j : ℕ) → j < n → R j (M j) (N j)
+  walk_each j l =
       subst (λ (m : Meaning). R j m (N j)) (before j j (omega arith) (omega arith))
       (subst (λ (m : Meaning). R j (w.at j j) m) (sym (after n j l (omega arith)) ∙ ap (λ (A : Members). A j) w.ends) (w.each j l).here)
 
-  pub walk-rest : (j : ℕ) → n ≤ j → N j ≡ M j
-  walk-rest j l = sym (ap (λ (A : Members). A j) w.ends) ∙ before n j l (omega arith)
+  pub walk_rest : (j : ℕ) → n ≤ j → N j ≡ M j
+  walk_rest j l = sym (ap (λ (A : Members). A j) w.ends) ∙ before n j l (omega arith)

@@ -3,7 +3,7 @@ ghost use Rattle.std.specs.Prelude.{◌≡◌, ℕ};
 ghost use Rattle.std.proofs.Common.{subst};
 ghost use Rattle.prime.specs.Diagonals.{evenodd as even_odd, evenodd};
 ghost use Rattle.code.specs.Codes.{Lawful};
-ghost use Rattle.prime.proofs.Laws.{evenodd-lawful};
+ghost use Rattle.prime.proofs.Laws.{evenodd_lawful};
 ghost use Rattle.diagonal.specs.Facts.{sizes_of};
 
 use crate::Grid;
@@ -32,7 +32,7 @@ impl Code for EvenOdd {
 
     ghost lawful = { λ c.
         let g = c.grid in
-        subst (λ (n : ℕ). Lawful n (evenodd g.prime g.width)) g.whole (evenodd-lawful g.prime g.indivisible g.width (sizes_of g).wide g.odd) };
+        subst (λ (n : ℕ). Lawful n (evenodd g.prime g.width)) g.whole (evenodd_lawful g.prime g.indivisible g.width (sizes_of g).wide g.odd) };
 
     // The prime.
     fn limit(&self) -> usize {

@@ -3,7 +3,7 @@ ghost use Rattle.std.specs.Prelude.{◌≡◌, ℕ};
 ghost use Rattle.std.proofs.Common.{subst};
 ghost use Rattle.prime.specs.Diagonals.{rdp as row-diagonal, rdp};
 ghost use Rattle.code.specs.Codes.{Lawful};
-ghost use Rattle.prime.proofs.Laws.{rdp-lawful};
+ghost use Rattle.prime.proofs.Laws.{rdp_lawful};
 ghost use Rattle.diagonal.specs.Facts.{sizes_of};
 
 use crate::Grid;
@@ -32,7 +32,7 @@ impl Code for Rdp {
 
     ghost lawful = { λ c.
         let g = c.grid in
-        subst (λ (n : ℕ). Lawful n (rdp g.prime g.width)) g.whole (rdp-lawful g.prime g.indivisible g.width (sizes_of g).wide) };
+        subst (λ (n : ℕ). Lawful n (rdp g.prime g.width)) g.whole (rdp_lawful g.prime g.indivisible g.width (sizes_of g).wide) };
 
     // One less than the prime.
     fn limit(&self) -> usize {

@@ -13,7 +13,7 @@ use Rattle.faultplan.specs.declared.entry.Entry.{Entry}
 use Rattle.faultplan.specs.declared.plan.Plan.{Plan}
 use Rattle.faultplan.specs.Entries.{concerns, next_phase, after, removes, stops_reads, stops_writes, fails}
 use Rattle.faultplan.specs.Plans.{failed, told, advanced, at_round}
-use Rattle.faultplan.proofs.Anys.{any-alike, any-up, any-down, any_none}
+use Rattle.faultplan.proofs.Anys.{any_alike, any_up, any_down, any_none}
 
 -- ---- each kind in each phase, at an event that concerns it
 refused_removes : (b : ℕ) (k : Kind) (f : Phase) → removes k (next_phase (Refused b) k f) ≡ removes k f
@@ -134,16 +134,16 @@ ended_next Fresh k = refl
 -- ---- one entry, whether or not the event concerns it
 module _ (ev : Event) (e : Entry) where
   -- what holds of its phase before and after holds after it was told
-  told-entry : (P : Phase → Type 0) → P (next_phase ev e.kind e.phase) → P e.phase → P (after ev e).phase
-  told-entry P new old = cond_both (concerns ev e) (next_phase ev e.kind e.phase) e.phase P (λ _. new) (λ _. old)
+  told_entry : (P : Phase → Type 0) → P (next_phase ev e.kind e.phase) → P e.phase → P (after ev e).phase
+  told_entry P new old = cond_both (concerns ev e) (next_phase ev e.kind e.phase) e.phase P (λ _. new) (λ _. old)
 
   keeps : (test : Kind → Phase → Bool) → ((k : Kind) (f : Phase) → test k (next_phase ev k f) ≡ test k f)
       → test e.kind (after ev e).phase ≡ test e.kind e.phase
-  keeps test h = told-entry (λ f. test e.kind f ≡ test e.kind e.phase) (h e.kind e.phase) refl
+  keeps test h = told_entry (λ f. test e.kind f ≡ test e.kind e.phase) (h e.kind e.phase) refl
 
   lifts : (test : Kind → Phase → Bool) → ((k : Kind) (f : Phase) → test k f ≡ true → test k (next_phase ev k f) ≡ true)
       → test e.kind e.phase ≡ true → test e.kind (after ev e).phase ≡ true
-  lifts test h t = told-entry (λ f. test e.kind f ≡ true) (h e.kind e.phase t) t
+  lifts test h t = told_entry (λ f. test e.kind f ≡ true) (h e.kind e.phase t) t
 
   -- an entry of block b, as seen from another block
   elsewhere : (b k : ℕ) → (k ≡ b → ⊥) → concerns ev e ≡ eqb e.block b → fails (Readable k) (after ev e) ≡ fails (Readable k) e
@@ -157,40 +157,40 @@ module _ (ev : Event) (e : Entry) where
 
 -- ---- the table
 module _ (p : Plan) (b : ℕ) where
-  pub refused-gone : failed Present (told (Refused b) p) ≡ failed Present p
-  refused-gone = any-alike (fails Present) (fails Present) (after (Refused b)) (λ e. keeps (Refused b) e removes (refused_removes b)) p.entries
+  pub refused_gone : failed Present (told (Refused b) p) ≡ failed Present p
+  refused_gone = any_alike (fails Present) (fails Present) (after (Refused b)) (λ e. keeps (Refused b) e removes (refused_removes b)) p.entries
 
-  pub refused-writes : (k : ℕ) → failed (Writable k) (told (Refused b) p) ≡ failed (Writable k) p
-  refused-writes k =
-      any-alike (fails (Writable k)) (fails (Writable k)) (after (Refused b))
+  pub refused_writes : (k : ℕ) → failed (Writable k) (told (Refused b) p) ≡ failed (Writable k) p
+  refused_writes k =
+      any_alike (fails (Writable k)) (fails (Writable k)) (after (Refused b))
       (λ e. ap (λ x. x && eqb e.block k) (keeps (Refused b) e stops_writes (refused_stops b))) p.entries
 
-  pub refused-reads : (k : ℕ) → (k ≡ b → ⊥) → failed (Readable k) (told (Refused b) p) ≡ failed (Readable k) p
-  refused-reads k ne = any-alike (fails (Readable k)) (fails (Readable k)) (after (Refused b)) (λ e. elsewhere (Refused b) e b k ne refl) p.entries
+  pub refused_reads : (k : ℕ) → (k ≡ b → ⊥) → failed (Readable k) (told (Refused b) p) ≡ failed (Readable k) p
+  refused_reads k ne = any_alike (fails (Readable k)) (fails (Readable k)) (after (Refused b)) (λ e. elsewhere (Refused b) e b k ne refl) p.entries
 
   -- after a write that the table refused, the block is unreadable
-  pub refused-here : failed (Writable b) p ≡ true → failed (Readable b) (told (Refused b) p) ≡ true
-  refused-here = any-up (fails (Readable b)) (fails (Writable b)) (after (Refused b)) (λ e t.
+  pub refused_here : failed (Writable b) p ≡ true → failed (Readable b) (told (Refused b) p) ≡ true
+  refused_here = any_up (fails (Readable b)) (fails (Writable b)) (after (Refused b)) (λ e t.
       let h = and_parts (stops_writes e.kind e.phase) (eqb e.block b) t in
       and_from _ (eqb e.block b)
       (cond_both (eqb e.block b) (next_phase (Refused b) e.kind e.phase) e.phase (λ f. stops_reads e.kind f ≡ true)
       (λ _. refused_spoils b e.kind e.phase h.0) (λ off. absurd (false≢true (sym off ∙ h.1))))
       h.1) p.entries
 
-  pub accepted-gone : failed Present (told (Accepted b) p) ≡ failed Present p
-  accepted-gone = any-alike (fails Present) (fails Present) (after (Accepted b)) (λ e. keeps (Accepted b) e removes (accepted_removes b)) p.entries
+  pub accepted_gone : failed Present (told (Accepted b) p) ≡ failed Present p
+  accepted_gone = any_alike (fails Present) (fails Present) (after (Accepted b)) (λ e. keeps (Accepted b) e removes (accepted_removes b)) p.entries
 
-  pub accepted-writes : (k : ℕ) → failed (Writable k) (told (Accepted b) p) ≡ failed (Writable k) p
-  accepted-writes k =
-      any-alike (fails (Writable k)) (fails (Writable k)) (after (Accepted b))
+  pub accepted_writes : (k : ℕ) → failed (Writable k) (told (Accepted b) p) ≡ failed (Writable k) p
+  accepted_writes k =
+      any_alike (fails (Writable k)) (fails (Writable k)) (after (Accepted b))
       (λ e. ap (λ x. x && eqb e.block k) (keeps (Accepted b) e stops_writes (accepted_stops b))) p.entries
 
-  pub accepted-reads : (k : ℕ) → (k ≡ b → ⊥) → failed (Readable k) (told (Accepted b) p) ≡ failed (Readable k) p
-  accepted-reads k ne = any-alike (fails (Readable k)) (fails (Readable k)) (after (Accepted b)) (λ e. elsewhere (Accepted b) e b k ne refl) p.entries
+  pub accepted_reads : (k : ℕ) → (k ≡ b → ⊥) → failed (Readable k) (told (Accepted b) p) ≡ failed (Readable k) p
+  accepted_reads k ne = any_alike (fails (Readable k)) (fails (Readable k)) (after (Accepted b)) (λ e. elsewhere (Accepted b) e b k ne refl) p.entries
 
   -- after an accepted write, the block is readable as far as the table goes
-  pub accepted-here : failed (Writable b) p ≡ false → failed (Readable b) (told (Accepted b) p) ≡ false
-  accepted-here = any-down (fails (Readable b)) (fails (Writable b)) (after (Accepted b)) (λ e t.
+  pub accepted_here : failed (Writable b) p ≡ false → failed (Readable b) (told (Accepted b) p) ≡ false
+  accepted_here = any_down (fails (Readable b)) (fails (Writable b)) (after (Accepted b)) (λ e t.
       ⊎_elim
       (λ (on : eqb e.block b ≡ true).
       let h = ⊎_elim (λ x. x) (λ off. absurd (false≢true (sym off ∙ on))) (and_cases (stops_writes e.kind e.phase) (eqb e.block b) t) in
@@ -201,7 +201,7 @@ module _ (p : Plan) (b : ℕ) where
       (cases_Bool (eqb e.block b))) p.entries
 
 pub ended_stays : (ev : Event) (e : Entry) → e.phase ≡ Ended → (after ev e).phase ≡ Ended
-ended_stays ev e h = told-entry ev e (λ f. f ≡ Ended) (ap (next_phase ev e.kind) h ∙ ended_next ev e.kind) h
+ended_stays ev e h = told_entry ev e (λ f. f ≡ Ended) (ap (next_phase ev e.kind) h ∙ ended_next ev e.kind) h
 
 -- after fresh, no entry makes a check fail
 fresh_passes : (c : Check) (e : Entry) → fails c (after Fresh e) ≡ false
@@ -213,17 +213,17 @@ pub fresh_clears : (c : Check) (p : Plan) → failed c (told Fresh p) ≡ false
 fresh_clears c p = any_none (fails c) (after Fresh) (fresh_passes c) p.entries
 
 module _ (p : Plan) where
-  pub advanced-gone : failed Present p ≡ true → failed Present (advanced p) ≡ true
-  advanced-gone h =
+  pub advanced_gone : failed Present p ≡ true → failed Present (advanced p) ≡ true
+  advanced_gone h =
       let n = p.round + 1 in
       cond_both (ltb p.round 65535) (told (Round n) (at_round n p)) p (λ q. failed Present q ≡ true)
-      (λ _. any-up (fails Present) (fails Present) (after (Round n)) (λ e. lifts (Round n) e removes (round_removes n)) p.entries h) (λ _. h)
+      (λ _. any_up (fails Present) (fails Present) (after (Round n)) (λ e. lifts (Round n) e removes (round_removes n)) p.entries h) (λ _. h)
 
-  pub advanced-reads : (k : ℕ) → failed (Readable k) p ≡ true → failed (Readable k) (advanced p) ≡ true
-  advanced-reads k h =
+  pub advanced_reads : (k : ℕ) → failed (Readable k) p ≡ true → failed (Readable k) (advanced p) ≡ true
+  advanced_reads k h =
       let n = p.round + 1 in
       cond_both (ltb p.round 65535) (told (Round n) (at_round n p)) p (λ q. failed (Readable k) q ≡ true)
-      (λ _. any-up (fails (Readable k)) (fails (Readable k)) (after (Round n)) (λ e t.
+      (λ _. any_up (fails (Readable k)) (fails (Readable k)) (after (Round n)) (λ e t.
       let a = and_parts (stops_reads e.kind e.phase) (eqb e.block k) t in
       and_from _ (eqb e.block k) (lifts (Round n) e stops_reads (round_stops n) a.0) a.1) p.entries h)
       (λ _. h)

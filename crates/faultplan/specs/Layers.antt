@@ -54,12 +54,12 @@ abbrev pub planned : {S : Type 0} → S → Plan → Planned S
 planned s p = record { below = s; plan = p }
 
 module _ {S : Type 0} (mean : S → Meaning) where
-  abbrev pub layer-meaning : Planned S → Meaning
-  layer-meaning x = layered x.plan (mean x.below)
+  abbrev pub layer_meaning : Planned S → Meaning
+  layer_meaning x = layered x.plan (mean x.below)
 
   -- a read goes below unless the layer refuses it itself
-  abbrev pub layer-seen : (S → ℕ → ℕ → S) → Planned S → ℕ → ℕ → Planned S
-  layer-seen see x b n =
+  abbrev pub layer_seen : (S → ℕ → ℕ → S) → Planned S → ℕ → ℕ → Planned S
+  layer_seen see x b n =
       cond (n == block_size)
       (cond (nat_lt b (mean x.below).count)
       (cond (is_some (withheld x.plan (mean x.below) (Readable b) b)) x (planned (see x.below b n) x.plan)) x)
@@ -81,8 +81,8 @@ module _ {S : Type 0} (mean : S → Meaning) where
     settled x b v (Some f) = stopped x b f
 
     -- a write with a bad buffer, or to no block, changes nothing
-    abbrev pub layer-wrote : Planned S → ℕ → List ℕ → Planned S
-    layer-wrote x b v =
+    abbrev pub layer_wrote : Planned S → ℕ → List ℕ → Planned S
+    layer_wrote x b v =
         cond (length v == block_size)
         (cond (nat_lt b (mean x.below).count) (settled x b v (withheld x.plan (mean x.below) (Writable b) b)) x)
         x

@@ -12,8 +12,8 @@ ghost use Rattle.member.specs.Meaning.{write_refusal};
 ghost use Rattle.faultplan.specs.declared.entry.Event.TheVariants.{Refused};
 ghost use Rattle.faultplan.specs.Entries.{kind_of};
 ghost use Rattle.faultplan.specs.Plans.{add_answer, room_answer, empty, with_entry, told};
-ghost use Rattle.faultplan.specs.Layers.{own_origin, withheld, only_gone, Planned, planned, layer-meaning, layer-seen, passed, layer-wrote, layer_ticked, layer_renewed};
-ghost use Rattle.faultplan.proofs.Layers.{layer-lawful};
+ghost use Rattle.faultplan.specs.Layers.{own_origin, withheld, only_gone, Planned, planned, layer_meaning, layer_seen, passed, layer_wrote, layer_ticked, layer_renewed};
+ghost use Rattle.faultplan.proofs.Layers.{layer_lawful};
 ghost use Rattle.std.proofs.Common.{rules};
 
 use code::BLOCK;
@@ -147,11 +147,11 @@ impl<M: Member> Member for FaultLayer<M> {
 
     ghost sound = { λ s. M.Member.sound s.below };
 
-    ghost meaning = { layer-meaning M.Member.meaning };
+    ghost meaning = { layer_meaning M.Member.meaning };
 
-    ghost seen = { layer-seen M.Member.meaning M.Member.seen };
+    ghost seen = { layer_seen M.Member.meaning M.Member.seen };
 
-    ghost wrote = { layer-wrote M.Member.meaning M.Member.wrote };
+    ghost wrote = { layer_wrote M.Member.meaning M.Member.wrote };
 
     ghost ticked = { layer_ticked M.Member.ticked };
 
@@ -160,7 +160,7 @@ impl<M: Member> Member for FaultLayer<M> {
     ghost holds = { Prim.search rules };
 
     ghost lawful = { let M' = M.Member in
-        layer-lawful M'.sound M'.meaning M'.seen M'.wrote M'.ticked M'.renewed M.Member.lawful };
+        layer_lawful M'.sound M'.meaning M'.seen M'.wrote M'.ticked M'.renewed M.Member.lawful };
 
     fn count(&self) -> usize {
         self.below.count()

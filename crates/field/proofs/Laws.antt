@@ -27,8 +27,8 @@ get_or_times a b k = ap (get_or (map (times a) b) k) (sym (times_zero a)) ∙ ge
 
 -- ---- n bytes, each times an element
 module _ (n : ℕ) (b : List ℕ) (B : Bytes n b) where
-  bytes-times : (a : ℕ) → a < 256 → Bytes n (map (times a) b)
-  bytes-times a h = record {
+  bytes_times : (a : ℕ) → a < 256 → Bytes n (map (times a) b)
+  bytes_times a h = record {
     long = length-map b (times a) ∙ B.long;
     bytes = λ k. subst (λ (x : ℕ). x < 256) (sym (get_or_times a b k)) (times_lt a (get_or b k 0) h);
   }
@@ -41,8 +41,8 @@ module _ (n : ℕ) (b : List ℕ) (B : Bytes n b) where
 -- to multiply by an element other than 0 is one-to-one and onto
 scaled : (n d : ℕ) → 0 < d → d < 256 → Inverse n (map (times d)) (map (times (inverse d)))
 scaled n d p h = record {
-  there = λ b B. bytes-times n b B d h;
-  back = λ b B. bytes-times n b B (inverse d) (inverse_lt d);
+  there = λ b B. bytes_times n b B d h;
+  back = λ b B. bytes_times n b B (inverse d) (inverse_lt d);
   undone = λ b B. back_by n b B (inverse d) d (λ x l. divided d x p h l);
   redone = λ b B. back_by n b B d (inverse d) (λ x l. undivided d x p h l);
 }

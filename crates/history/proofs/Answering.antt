@@ -134,37 +134,37 @@ either false P M p = (M, (λ e. absurd (false≢true e)), λ _. refl)
 
 -- ---- the calls
 module _ (V : Shape) (M : Members) where
-  zeroed-by : (N : Members) × FormatChanges V M N
-  zeroed-by = walked_by V.stripes _ (λ s A. walked_by V.slots _ (λ i B. moved_by (λ m n. Written m s zeros n) (λ m. written_by m s zeros) i B) A) M
+  zeroed_by : (N : Members) × FormatChanges V M N
+  zeroed_by = walked_by V.stripes _ (λ s A. walked_by V.slots _ (λ i B. moved_by (λ m n. Written m s zeros n) (λ m. written_by m s zeros) i B) A) M
 
-  tick-by : (N : Members) × TickChanges V M N
-  tick-by = walked_by V.slots _ (λ i A. moved_by Ticked ticked_by i A) M
+  tick_by : (N : Members) × TickChanges V M N
+  tick_by = walked_by V.slots _ (λ i A. moved_by Ticked ticked_by i A) M
 
   module _ (F : Frontiers) where
-    stored-by : (s t : ℕ) (v : List ℕ) (A : Members) → (B : Members) × Stored V M F s t v A B
-    stored-by s t v A = moved_by (Put (due M F s (V.place s t)) s v) (put_by (due M F s (V.place s t)) s v) (V.place s t) A
+    stored_by : (s t : ℕ) (v : List ℕ) (A : Members) → (B : Members) × Stored V M F s t v A B
+    stored_by s t v A = moved_by (Put (due M F s (V.place s t)) s v) (put_by (due M F s (V.place s t)) s v) (V.place s t) A
 
-    spread-by : (s c : ℕ) (v : List ℕ) → (N : Members) × Spread V M F s c v N
-    spread-by s c v =
-        let x = stored-by s c v M in
-        let y = stored-by s (data_columns V) (new_P V M F s c v) x.0 in
-        let z = stored-by s (data_columns V + 1) (new_Q V M F s c v) y.0 in
+    spread_by : (s c : ℕ) (v : List ℕ) → (N : Members) × Spread V M F s c v N
+    spread_by s c v =
+        let x = stored_by s c v M in
+        let y = stored_by s (data_columns V) (new_P V M F s c v) x.0 in
+        let z = stored_by s (data_columns V + 1) (new_Q V M F s c v) y.0 in
         (z.0, record { after_own = x.0; after_P = y.0; own = x.1; P = y.1; Q = z.1 })
 
-    write-by : (a : ℕ) (v : List ℕ) → (N : Members) × WriteChanges V M F a v N
-    write-by a v =
-        let e = either (write_takes V M F a (length v)) (Spread V M F (stripe_of V a) (column_of V a) v) M (spread-by (stripe_of V a) (column_of V a) v) in
+    write_by : (a : ℕ) (v : List ℕ) → (N : Members) × WriteChanges V M F a v N
+    write_by a v =
+        let e = either (write_takes V M F a (length v)) (Spread V M F (stripe_of V a) (column_of V a) v) M (spread_by (stripe_of V a) (column_of V a) v) in
         (e.0, record { taken = e.1; refused = e.2 })
 
-    scrub-by : (s : ℕ) → (N : Members) × ScrubChanges V M F s N
-    scrub-by s =
+    scrub_by : (s : ℕ) → (N : Members) × ScrubChanges V M F s N
+    scrub_by s =
         let e = either (scrub_takes V M F s) (Scrubbed V M F s) M
         (walked_by V.slots _ (λ i A. moved_by (Put (is_unreadable (status M F s i)) s (recovered_at V M F s (V.back s i))) (put_by (is_unreadable (status M F s i)) s (recovered_at V M F s (V.back s i))) i A) M) in
         (e.0, record { taken = e.1; refused = e.2 })
 
   module _ (R : Records) (i : ℕ) where
-    replace-by : (N : Members) × (Q : Records) × ReplaceChanges V M R i N Q
-    replace-by =
+    replace_by : (N : Members) × (Q : Records) × ReplaceChanges V M R i N Q
+    replace_by =
         let e = either (is_ok (replace_outcome V R i)) (Moved Renewed i M) M (moved_by Renewed renewed_by i M) in
         (e.0, event_records V R i Replaced, record { taken = e.1; refused = e.2; records = refl })
 
@@ -176,7 +176,7 @@ module _ (V : Shape) (M : Members) where
 
 pub can_format : CanFormat
 can_format V M room =
-    let z = zeroed-by V M in
+    let z = zeroed_by V M in
     (record { members = z.0; records = λ _. idle_at V.stripes }, record { before = M; roomy = room; zeroed = z.1; idle = λ i l. refl }, refl)
 
 -- a member with S blocks that holds nothing
@@ -192,11 +192,11 @@ answers : (V : Shape) (σ : State) (q : Call) (M : Members) (R : Records) → Ch
 answers V σ q M R h = let τ : State = record { members = M; records = R } in (answer_to V σ q τ, τ, record { answer = refl; changes = h })
 
 pub always_answers : AlwaysAnswers
-always_answers V σ tick = let t = tick-by V σ.members in answers V σ tick t.0 σ.records (t.1, refl)
+always_answers V σ tick = let t = tick_by V σ.members in answers V σ tick t.0 σ.records (t.1, refl)
 always_answers V σ (read a len) = answers V σ (read a len) σ.members σ.records (refl, refl)
-always_answers V σ (write a v) = let t = write-by V σ.members (frontiers σ.records) a v in answers V σ (write a v) t.0 σ.records (t.1, refl)
-always_answers V σ (scrub s) = let t = scrub-by V σ.members (frontiers σ.records) s in answers V σ (scrub s) t.0 σ.records (t.1, refl)
-always_answers V σ (replace i) = let t = replace-by V σ.members σ.records i in answers V σ (replace i) t.0 t.1 t.2
+always_answers V σ (write a v) = let t = write_by V σ.members (frontiers σ.records) a v in answers V σ (write a v) t.0 σ.records (t.1, refl)
+always_answers V σ (scrub s) = let t = scrub_by V σ.members (frontiers σ.records) s in answers V σ (scrub s) t.0 σ.records (t.1, refl)
+always_answers V σ (replace i) = let t = replace_by V σ.members σ.records i in answers V σ (replace i) t.0 t.1 t.2
 always_answers V σ (open_slot i) = answers V σ (open_slot i) σ.members (event_records V σ.records i Opened) (refl, refl)
 always_answers V σ (step i) = let t = step_by V σ.members σ.records i in answers V σ (step i) t.0 t.1 t.2
 always_answers V σ (close i) = answers V σ (close i) σ.members (event_records V σ.records i Closed) (refl, refl)

@@ -48,12 +48,12 @@ module _ (V : Shape) (L : Valid V) (σ : State) (a len : ℕ) (r : Answer) (τ :
       let o : read_outcome V M F a (length old) ≡ Ok tt = ap (read_outcome V M F a) (length-replicate len 0) ∙ g.0 in
       sym ((reads V L M F).hands a old o c f) ∙ cond-true _ _ _ (ap is_ok o) ∙ g.1
 
-  pub refused-read : (t : Told) → r ≡ refused t → read_outcome V M F a len ≡ Err t
-  refused-read t e = refused_by (λ _. bytes (recovered_at V M F (stripe_of V a) (column_of V a))) (not_bytes _) (read_outcome V M F a len) t (sym m.answer ∙ e)
+  pub refused_read : (t : Told) → r ≡ refused t → read_outcome V M F a len ≡ Err t
+  refused_read t e = refused_by (λ _. bytes (recovered_at V M F (stripe_of V a) (column_of V a))) (not_bytes _) (read_outcome V M F a len) t (sym m.answer ∙ e)
 
   pub differ : RefusedWith 4 r → (c : ℕ → List ℕ) → Fits V σ c → DifferAt V σ a
   differ h c f =
-      let d = (reads V L M F).lost c f a len (ap refusal_number (refused-read h.0 h.1) ∙ h.2) in
+      let d = (reads V L M F).lost c f a len (ap refusal_number (refused_read h.0 h.1) ∙ h.2) in
       (d.0, c, d.1, f, d.2)
 
 pub read_right : (V : Shape) → Valid V → (σ : State) (a : ℕ) (r : Answer) (τ : State) → a < blocks V → (c : ℕ → List ℕ) → Fits V σ c → Makes V σ (read a block_size) r τ → ReadRight V σ a r

@@ -21,11 +21,11 @@ module _ (V : Shape) (state : ℕ → State) (τ : State) where
   abbrev longer : ℕ → ℕ → State
   longer n j = cond (eqb j (suc n)) τ (state j)
 
-  longer-old : (n j : ℕ) → j ≤ n → longer n j ≡ state j
-  longer-old n j l = cond-false _ _ _ (ne_eqb j (suc n) (λ e. omega arith))
+  longer_old : (n j : ℕ) → j ≤ n → longer n j ≡ state j
+  longer_old n j l = cond-false _ _ _ (ne_eqb j (suc n) (λ e. omega arith))
 
-  longer-new : (n j : ℕ) → j ≡ suc n → longer n j ≡ τ
-  longer-new n j e = cond-true _ _ _ (eq-eqb j (suc n) e)
+  longer_new : (n j : ℕ) → j ≡ suc n → longer n j ≡ τ
+  longer_new n j e = cond-true _ _ _ (eq-eqb j (suc n) e)
 
   moved : (e d : Event) (σ ρ υ μ : State) → d ≡ e → ρ ≡ σ → μ ≡ υ → Makes V σ e.call e.answer υ → Makes V ρ d.call d.answer μ
   moved e d σ ρ υ μ x y z m =
@@ -42,18 +42,18 @@ kept_by_calls V start es σ τ q r k g m =
     let now : event_of more n ≡ e = get_or_push es e none n refl in
     let old : (j : ℕ) → j < n → event_of more j ≡ event_of es j = λ j l. get_or_append_left es (e ∷ []) none j l in
     let at = longer V k.state τ n in
-    kept_of V k.valid start more τ at (longer-old V k.state τ n 0 (omega arith) ∙ k.starts) (longer-new V k.state τ n (length more) (omega (arith, len)))
+    kept_of V k.valid start more τ at (longer_old V k.state τ n 0 (omega arith) ∙ k.starts) (longer_new V k.state τ n (length more) (omega (arith, len)))
     (record {
-      begins = subst (Formatted V) (sym (longer-old V k.state τ n 0 (omega arith))) k.run.begins;
+      begins = subst (Formatted V) (sym (longer_old V k.state τ n 0 (omega arith))) k.run.begins;
       makes = λ j l.
           ⊎_elim
           (λ (x : j ≡ n).
-          moved V k.state τ e (event_of more j) σ (at j) τ (at (suc j)) (ap (event_of more) x ∙ now) (longer-old V k.state τ n j (omega arith) ∙ ap k.state x ∙ k.ends)
-          (longer-new V k.state τ n (suc j) (ap suc x)) m)
+          moved V k.state τ e (event_of more j) σ (at j) τ (at (suc j)) (ap (event_of more) x ∙ now) (longer_old V k.state τ n j (omega arith) ∙ ap k.state x ∙ k.ends)
+          (longer_new V k.state τ n (suc j) (ap suc x)) m)
           (λ (x : j ≡ n → ⊥).
           let lj : j < n = omega (arith, l, len) in
-          moved V k.state τ (event_of es j) (event_of more j) (k.state j) (at j) (k.state (suc j)) (at (suc j)) (old j lj) (longer-old V k.state τ n j (omega arith))
-          (longer-old V k.state τ n (suc j) (omega arith)) (k.run.makes j lj))
+          moved V k.state τ (event_of es j) (event_of more j) (k.state j) (at j) (k.state (suc j)) (at (suc j)) (old j lj) (longer_old V k.state τ n j (omega arith))
+          (longer_old V k.state τ n (suc j) (omega arith)) (k.run.makes j lj))
           (cases_eq j n);
       given = λ j l.
           ⊎_elim

@@ -27,9 +27,9 @@ not_counts x t e = let z : ◌≡◌ {A = ℕ} 0 1 = cc in omega arith
 
 module _ (V : Shape) (σ τ : State) where
   -- an outcome that tells loss gives an answer that does
-  tells-by : {U : Type 0} (s : ℕ) (f : U → Answer) → ((u : U) (t : Told) → f u ≡ refused t → ⊥) → (o : Result U Told) → theorems.TellsLoss V σ.members (frontiers σ.records) s o
+  tells_by : {U : Type 0} (s : ℕ) (f : U → Answer) → ((u : U) (t : Told) → f u ≡ refused t → ⊥) → (o : Result U Told) → theorems.TellsLoss V σ.members (frontiers σ.records) s o
       → (r : Answer) → r ≡ answered f o → TellsLoss V σ s r
-  tells-by s f n o h r e = record {
+  tells_by s f n o h r e = record {
     only = λ x. h.only (ap refusal_number (refused_by f n o x.0 (sym e ∙ x.1)) ∙ x.2);
     always = λ x. subst (RefusedWith 4) (sym e) (four_by f o (h.always x));
     names = λ t q. h.names t (refused_by f n o t (sym e ∙ q));
@@ -39,18 +39,18 @@ module _ (V : Shape) (σ τ : State) where
   write_tells a v r lv la m =
       let M = σ.members in
       let F = frontiers σ.records in
-      tells-by (stripe_of V a) number not_number (write_outcome V M F a block_size τ.members) ((losses V M F).write a τ.members la) r
+      tells_by (stripe_of V a) number not_number (write_outcome V M F a block_size τ.members) ((losses V M F).write a τ.members la) r
       (m.answer ∙ ap (λ (l : ℕ). answered number (write_outcome V M F a l τ.members)) lv)
 
-  pub scrub-tells : (s : ℕ) (r : Answer) → s < V.stripes → Makes V σ (scrub s) r τ → TellsLoss V σ s r
-  scrub-tells s r ls m =
+  pub scrub_tells : (s : ℕ) (r : Answer) → s < V.stripes → Makes V σ (scrub s) r τ → TellsLoss V σ s r
+  scrub_tells s r ls m =
       let M = σ.members in
       let F = frontiers σ.records in
-      tells-by s (λ (x : ℕ × ℕ × ℕ). counts x.0 x.1 x.2) not_counts (scrub_outcome V M F s) ((losses V M F).scrub s ls) r m.answer
+      tells_by s (λ (x : ℕ × ℕ × ℕ). counts x.0 x.1 x.2) not_counts (scrub_outcome V M F s) ((losses V M F).scrub s ls) r m.answer
 
-  pub step-tells : (i : ℕ) (r : Answer) → open_here V σ.records i ≡ true → (σ.records i).frontier < V.stripes → Makes V σ (step i) r τ → TellsLoss V σ (σ.records i).frontier r
-  step-tells i r o lf m =
-      tells-by (σ.records i).frontier number not_number (step_outcome V σ.members σ.records i) (rebuild_losses V σ.members σ.records i o lf) r m.answer
+  pub step_tells : (i : ℕ) (r : Answer) → open_here V σ.records i ≡ true → (σ.records i).frontier < V.stripes → Makes V σ (step i) r τ → TellsLoss V σ (σ.records i).frontier r
+  step_tells i r o lf m =
+      tells_by (σ.records i).frontier number not_number (step_outcome V σ.members σ.records i) (rebuild_losses V σ.members σ.records i o lf) r m.answer
 
   -- a torn write names what is missing after it
   pub torn : (a : ℕ) (v : List ℕ) (r : Answer) (t : Told) → Makes V σ (write a v) r τ → r ≡ refused t → ◌≡◌ {A = ℕ} t.number 5

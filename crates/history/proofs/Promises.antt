@@ -9,8 +9,8 @@ use Rattle.history.specs.Calls.Call.{read, write}
 use Rattle.history.specs.History.{Event, Run, written, LastWritten, Promise, EveryRun}
 use Rattle.history.proofs.Standing.{Stands, stands}
 use Rattle.history.proofs.Last.{last_of}
-use Rattle.history.proofs.Handing.{hands, refused-read, differ, read_right}
-use Rattle.history.proofs.Losses.{write_tells, scrub-tells, step-tells, torn}
+use Rattle.history.proofs.Handing.{hands, refused_read, differ, read_right}
+use Rattle.history.proofs.Losses.{write_tells, scrub_tells, step_tells, torn}
 
 module _ (V : Shape) (L : Valid V) (n : ℕ) (event : ℕ → Event) (state : ℕ → State) (run : Run V n event state) where
   at : (j : ℕ) → j ≤ n → Stands V (state j) (written event j)
@@ -30,13 +30,13 @@ module _ (V : Shape) (L : Valid V) (n : ℕ) (event : ℕ → Event) (state : �
     loss_is_real = λ j a len l e h.
         differ V L (state j) a len (event j).answer (state (suc j)) (made j (read a len) l e) h (written event j) (at j (omega arith)).fits;
     read_loss_named = λ j a len t l e q m.
-        (losses V (state j).members (frontiers (state j).records)).read a len t (refused-read V L (state j) a len (event j).answer (state (suc j)) (made j (read a len) l e) t q) m;
+        (losses V (state j).members (frontiers (state j).records)).read a len t (refused_read V L (state j) a len (event j).answer (state (suc j)) (made j (read a len) l e) t q) m;
     torn_named = λ j a v t l e q m. torn V (state j) (state (suc j)) a v (event j).answer t (made j (write a v) l e) q m;
     frontiers_within = λ j i l li. (at j l).within i li;
     reads_what_is_shared = λ σ τ a r la c f m. read_right V L σ a r τ la c f m;
     write_loss = λ σ τ. write_tells V σ τ;
-    scrub_loss = λ σ τ. scrub-tells V σ τ;
-    step_loss = λ σ τ. step-tells V σ τ;
+    scrub_loss = λ σ τ. scrub_tells V σ τ;
+    step_loss = λ σ τ. step_tells V σ τ;
   }
 
 pub every_run : EveryRun

@@ -18,7 +18,7 @@ use Rattle.contents.specs.Theorems.{CountsKept}
 use Rattle.contents.specs.Rebuilds.{event_records, step_outcome}
 use Rattle.contents.proofs.Keeping.{scrubs, ticks, formats}
 use Rattle.contents.proofs.Writing.{writes}
-use Rattle.contents.proofs.Rebuilding.{replaces, rebuilds, stays, frontiers-kept}
+use Rattle.contents.proofs.Rebuilding.{replaces, rebuilds, stays, frontiers_kept}
 use Rattle.history.specs.Calls.{State, Call, Answer, answered, Makes, Fits}
 use Rattle.history.specs.Calls.Call.{tick, read, write, scrub, replace, open_slot, step, close, margin}
 use Rattle.history.specs.Calls.Answer.{number}
@@ -70,59 +70,59 @@ taken_alike (Ok u) = refl
 taken_alike (Err t) = refl
 
 module _ (V : Shape) (L : Valid V) (σ τ : State) (c : ℕ → List ℕ) (h : Stands V σ c) where
-  roomy-on : CountsKept σ.members τ.members → Roomy V τ.members
-  roomy-on k i l = let e = k i in let r = h.roomy i l in omega arith
+  roomy_on : CountsKept σ.members τ.members → Roomy V τ.members
+  roomy_on k i l = let e = k i in let r = h.roomy i l in omega arith
 
   -- only members change
-  records-left : (d : ℕ → List ℕ) → τ.records ≡ σ.records → FitsVolume V τ.members (frontiers σ.records) d → CountsKept σ.members τ.members → Stands V τ d
-  records-left d e f k = record {
+  records_left : (d : ℕ → List ℕ) → τ.records ≡ σ.records → FitsVolume V τ.members (frontiers σ.records) d → CountsKept σ.members τ.members → Stands V τ d
+  records_left d e f k = record {
     fits = subst (λ (R : Records). FitsVolume V τ.members (frontiers R) d) (sym e) f;
-    roomy = roomy-on k;
+    roomy = roomy_on k;
     within = subst (Within V) (sym e) h.within;
   }
 
   -- a frontier moves only by an event, which is taken or not
-  by-event : (i : ℕ) (e : SlotEvent) (b : Bool) → τ.records ≡ cond b (event_records V σ.records i e) σ.records → Fits V τ c → CountsKept σ.members τ.members → Stands V τ c
-  by-event i e b q f k = record {
+  by_event : (i : ℕ) (e : SlotEvent) (b : Bool) → τ.records ≡ cond b (event_records V σ.records i e) σ.records → Fits V τ c → CountsKept σ.members τ.members → Stands V τ c
+  by_event i e b q f k = record {
     fits = f;
-    roomy = roomy-on k;
+    roomy = roomy_on k;
     within = subst (Within V) (sym q) (cond_both b (event_records V σ.records i e) σ.records (Within V) (λ _. event_within V σ.records i e h.within) (λ _. h.within));
   }
 
   -- nothing changes
   left : (τ.members ≡ σ.members) × (τ.records ≡ σ.records) → Stands V τ c
   left p =
-      records-left c p.1 (subst (λ (M : Members). FitsVolume V M (frontiers σ.records) c) (sym p.0) h.fits) (λ i. ap (λ (M : Members). (M i).count) p.0)
+      records_left c p.1 (subst (λ (M : Members). FitsVolume V M (frontiers σ.records) c) (sym p.0) h.fits) (λ i. ap (λ (M : Members). (M i).count) p.0)
 
   -- no member changes, and no frontier
   turned : (i : ℕ) (e : SlotEvent) → (slot_after V.stripes (σ.records i) e).frontier ≡ (σ.records i).frontier → (τ.members ≡ σ.members) × (τ.records ≡ event_records V σ.records i e)
       → Stands V τ c
   turned i e s p =
-      by-event i e true p.1
-      (frontiers-kept V L σ.members τ.members (frontiers σ.records) (frontiers τ.records) p.0
+      by_event i e true p.1
+      (frontiers_kept V L σ.members τ.members (frontiers σ.records) (frontiers τ.records) p.0
       (λ j. ap (λ (R : Records). (R j).frontier) p.1 ∙ stays σ.records i (slot_after V.stripes (σ.records i) e) (ltb i V.slots) s j) c h.fits)
       (λ j. ap (λ (M : Members). (M j).count) p.0)
 
   by_call : (q : Call) (r : Answer) → GivenBytes q → Makes V σ q r τ → Stands V τ (after c q r)
-  by_call tick r g m = let t = ticks V L σ.members (frontiers σ.records) h.roomy τ.members m.changes.0 in records-left c m.changes.1 (t.0 c h.fits) t.1
+  by_call tick r g m = let t = ticks V L σ.members (frontiers σ.records) h.roomy τ.members m.changes.0 in records_left c m.changes.1 (t.0 c h.fits) t.1
   by_call (read a len) r g m = left m.changes
   by_call (write a v) r g m =
       let M = σ.members in
       let F = frontiers σ.records in
       let w = writes V L M F h.roomy a v τ.members (g a v refl) m.changes.0 in
       let e : taken r ≡ write_takes V M F a (length v) = ap taken m.answer ∙ taken_alike (write_outcome V M F a (length v) τ.members) ∙ w.takes in
-      records-left (cond (taken r) (put c a v) c) m.changes.1
+      records_left (cond (taken r) (put c a v) c) m.changes.1
       (subst (λ (b : Bool). FitsVolume V τ.members F (cond b (put c a v) c)) (sym e) (w.fits c h.fits)) w.counts
   by_call (scrub s) r g m =
       let t = scrubs V L σ.members (frontiers σ.records) h.roomy s τ.members m.changes.0 in
-      records-left c m.changes.1 (t.fits c h.fits) t.counts
+      records_left c m.changes.1 (t.fits c h.fits) t.counts
   by_call (replace i) r g m =
       let t = replaces V L σ.members σ.records i τ.members τ.records m.changes in
-      by-event i Replaced true m.changes.records (t.0 c h.fits) t.1
+      by_event i Replaced true m.changes.records (t.0 c h.fits) t.1
   by_call (open_slot i) r g m = turned i Opened (opened_stays V.stripes (σ.records i).state (σ.records i).frontier) m.changes
   by_call (step i) r g m =
       let t = rebuilds V L σ.members σ.records h.roomy i τ.members τ.records m.changes in
-      by-event i Stepped (is_ok (step_outcome V σ.members σ.records i)) m.changes.records (t.0 c h.fits) t.1
+      by_event i Stepped (is_ok (step_outcome V σ.members σ.records i)) m.changes.records (t.0 c h.fits) t.1
   by_call (close i) r g m = turned i Closed (closed_stays V.stripes (σ.records i).state (σ.records i).frontier) m.changes
   by_call margin r g m = left m.changes
 

@@ -15,20 +15,20 @@ same_some f g e = cc
 
 -- ---- what is left to refuse with a good buffer and number
 module _ (m : Meaning) (b : ℕ) (there : b < m.count) where
-  pub good-look : look_refusal m b ≡ get_refusal m b
-  good-look = cond-true _ _ _ (lt-ltb b m.count there)
+  pub good_look : look_refusal m b ≡ get_refusal m b
+  good_look = cond-true _ _ _ (lt-ltb b m.count there)
 
-  pub good-read : (n : ℕ) → n ≡ 512 → read_refusal m b n ≡ get_refusal m b
-  good-read n e = cond-true _ _ _ (eq-eqb n 512 e) ∙ good-look
+  pub good_read : (n : ℕ) → n ≡ 512 → read_refusal m b n ≡ get_refusal m b
+  good_read n e = cond-true _ _ _ (eq-eqb n 512 e) ∙ good_look
 
-  pub good-write : (n : ℕ) → n ≡ 512 → write_refusal m b n ≡ put_refusal m b
-  good-write n e = cond-true _ _ _ (eq-eqb n 512 e) ∙ cond-true _ _ _ (lt-ltb b m.count there)
+  pub good_write : (n : ℕ) → n ≡ 512 → write_refusal m b n ≡ put_refusal m b
+  good_write n e = cond-true _ _ _ (eq-eqb n 512 e) ∙ cond-true _ _ _ (lt-ltb b m.count there)
 
-  pub good-handed : (old : List ℕ) → length old ≡ 512 → handed m b old ≡ cond (is_some (get_refusal m b)) old (unwrap_or (m.block b) old)
-  good-handed old e = ap (λ r. cond (is_some r) old (unwrap_or (m.block b) old)) (good-read (length old) e)
+  pub good_handed : (old : List ℕ) → length old ≡ 512 → handed m b old ≡ cond (is_some (get_refusal m b)) old (unwrap_or (m.block b) old)
+  good_handed old e = ap (λ r. cond (is_some r) old (unwrap_or (m.block b) old)) (good_read (length old) e)
 
-  pub good-checked : {S : Type 0} (n : ℕ) (new old : S) → n ≡ 512 → checked m b n new old ≡ new
-  good-checked n new old e = cond-true _ _ _ (eq-eqb n 512 e) ∙ cond-true _ _ _ (lt-ltb b m.count there)
+  pub good_checked : {S : Type 0} (n : ℕ) (new old : S) → n ≡ 512 → checked m b n new old ≡ new
+  good_checked n new old e = cond-true _ _ _ (eq-eqb n 512 e) ∙ cond-true _ _ _ (lt-ltb b m.count there)
 
 -- ---- the three ways of a write of a good buffer to a block that there is
 pub data Outcome (m : Meaning) (b : ℕ) (v : List ℕ) (n : Meaning) : Type 0 where
@@ -39,7 +39,7 @@ pub data Outcome (m : Meaning) (b : ℕ) (v : List ℕ) (n : Meaning) : Type 0 w
 module _ (m : Meaning) (b : ℕ) (v : List ℕ) (n : Meaning) where
   pub outcome : length v ≡ 512 → b < m.count → Written m b v n → Outcome m b v n
   outcome sized there h =
-      let good = good-write m b there (length v) sized in
+      let good = good_write m b there (length v) sized in
       ⊎_elim
       (λ (e : m.gone ≡ true). gone_way e (h.refused _ (good ∙ cond-true _ _ _ e) (λ z. omega arith)))
       (λ (e : m.gone ≡ false).
@@ -50,23 +50,23 @@ module _ (m : Meaning) (b : ℕ) (v : List ℕ) (n : Meaning) where
       (cases_Bool m.gone)
 
   -- back again, with a good buffer and number
-  pub good-written : length v ≡ 512 → b < m.count → Outcome m b v n → Written m b v n
-  good-written sized there (gone_way e same) =
-      let is = good-write m b there (length v) sized ∙ cond-true _ _ _ e in
+  pub good_written : length v ≡ 512 → b < m.count → Outcome m b v n → Written m b v n
+  good_written sized there (gone_way e same) =
+      let is = good_write m b there (length v) sized ∙ cond-true _ _ _ e in
       record {
         accepted = λ q. absurd (none≢some _ (sym q ∙ is));
         unwritable = λ f q three. let z = ap (λ r. r.cause) (same_some _ f (sym is ∙ q)) in absurd (omega arith);
         refused = λ f q other. same;
       }
-  good-written sized there (taken_way e w h) =
-      let is = good-write m b there (length v) sized ∙ cond-false _ _ _ e ∙ cond-true _ _ _ w in
+  good_written sized there (taken_way e w h) =
+      let is = good_write m b there (length v) sized ∙ cond-false _ _ _ e ∙ cond-true _ _ _ w in
       record {
         accepted = λ q. h;
         unwritable = λ f q three. absurd (none≢some f (sym is ∙ q));
         refused = λ f q other. absurd (none≢some f (sym is ∙ q));
       }
-  good-written sized there (spoiled_way e w h) =
-      let is = good-write m b there (length v) sized ∙ cond-false _ _ _ e ∙ cond-false _ _ _ w in
+  good_written sized there (spoiled_way e w h) =
+      let is = good_write m b there (length v) sized ∙ cond-false _ _ _ e ∙ cond-false _ _ _ w in
       record {
         accepted = λ q. absurd (none≢some _ (sym q ∙ is));
         unwritable = λ f q three. h;
@@ -93,8 +93,8 @@ checked_written mean old new b v way =
     ⊎_elim
     (λ (l : ltb b m.count ≡ true).
     let there = ltb-true b m.count l in
-    subst (λ s. Written m b v (mean s)) (sym (good-checked m b there (length v) new old sized))
-    (good-written m b v (mean new) sized there (way sized there)))
+    subst (λ s. Written m b v (mean s)) (sym (good_checked m b there (length v) new old sized))
+    (good_written m b v (mean new) sized there (way sized there)))
     (λ (l : ltb b m.count ≡ false).
     subst (λ s. Written m b v (mean s)) (sym (cond-true _ _ _ e ∙ cond-false _ _ _ l))
     (bad_written m b v _ (cond-true _ _ _ e ∙ cond-false _ _ _ l) (λ z. omega arith)))

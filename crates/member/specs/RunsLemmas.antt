@@ -24,7 +24,7 @@ use Rattle.member.specs.Runs.{
   image_wrote,
   RestKept,
 }
-use Rattle.member.specs.Outcomes.{taken_way, good-write, good-checked, checked_written}
+use Rattle.member.specs.Outcomes.{taken_way, good_write, good_checked, checked_written}
 
 -- every number of the list is a byte
 abbrev pub Low : List ℕ → Type 0
@@ -48,38 +48,38 @@ low_append (x ∷ xs) ys h k (suc i) = low_append xs ys (λ j. h (suc j)) k i
 
 -- ---- one block of a run
 module _ (xs : List ℕ) (b : ℕ) where
-  pub cut-block : b * 512 + 512 ≤ length xs → Low xs → Block (cut xs b)
-  cut-block fit h = record {
+  pub cut_block : b * 512 + 512 ≤ length xs → Low xs → Block (cut xs b)
+  cut_block fit h = record {
     long = simp (length-take, length-drop) (omega arith);
     bytes = low_take 512 (drop (b * 512) xs) (low_drop (b * 512) xs h);
   }
 
 module _ (xs v : List ℕ) (b : ℕ) (lv : length v ≡ 512) (fit : b * 512 + 512 ≤ length xs) where
-  pub length-pasted : length (pasted xs b v) ≡ length xs
-  length-pasted = simp (length-append, length-take, length-drop) (omega arith)
+  pub length_pasted : length (pasted xs b v) ≡ length xs
+  length_pasted = simp (length-append, length-take, length-drop) (omega arith)
 
-  pub low-pasted : Low xs → Low v → Low (pasted xs b v)
-  low-pasted h k =
+  pub low_pasted : Low xs → Low v → Low (pasted xs b v)
+  low_pasted h k =
       low_append (take (b * 512) xs) (v ++ drop 512 (drop (b * 512) xs)) (low_take (b * 512) xs h)
       (low_append v (drop 512 (drop (b * 512) xs)) k (low_drop 512 (drop (b * 512) xs) (low_drop (b * 512) xs h)))
 
-  pub cut-here : cut (pasted xs b v) b ≡ v
-  cut-here =
+  pub cut_here : cut (pasted xs b v) b ≡ v
+  cut_here =
       let e : 512 ≡ (b * 512 + 512) - b * 512 = omega arith in
       ap (λ n. take n (drop (b * 512) (put_mid (b * 512) 512 xs v))) e
       ∙ between-put_mid (b * 512) 512 xs v (b * 512 + 512) (omega arith) (omega arith)
 
-  cut-between : (ys : List ℕ) (k : ℕ) → cut ys k ≡ drop (k * 512) (take (k * 512 + 512) ys)
-  cut-between ys k =
+  cut_between : (ys : List ℕ) (k : ℕ) → cut ys k ≡ drop (k * 512) (take (k * 512 + 512) ys)
+  cut_between ys k =
       let e : 512 ≡ (k * 512 + 512) - k * 512 = omega arith in
       ap (λ n. take n (drop (k * 512) ys)) e ∙ between_is ys (k * 512) (k * 512 + 512)
 
-  pub cut-other : (k : ℕ) → (k ≢ b) → cut (pasted xs b v) k ≡ cut xs k
-  cut-other k ne =
+  pub cut_other : (k : ℕ) → (k ≢ b) → cut (pasted xs b v) k ≡ cut xs k
+  cut_other k ne =
       ⊎_elim (λ (e : k ≡ b). absurd (ne e))
       (⊎_elim
-      (λ (l : k < b). cut-between (put_mid (b * 512) 512 xs v) k
-      ∙ ap (drop (k * 512)) (take-put_mid_below (b * 512) 512 xs v (k * 512 + 512) (omega arith) (omega arith)) ∙ sym (cut-between xs k))
+      (λ (l : k < b). cut_between (put_mid (b * 512) 512 xs v) k
+      ∙ ap (drop (k * 512)) (take-put_mid_below (b * 512) 512 xs v (k * 512 + 512) (omega arith) (omega arith)) ∙ sym (cut_between xs k))
       (λ (l : b < k). ap (take 512) (drop-put_mid (b * 512) 512 xs v (k * 512) (omega arith) (omega arith) lv)))
       (cases_order k b)
 
@@ -88,14 +88,14 @@ module _ (n : ℕ) (xs : List ℕ) (b : ℕ) (lt : b < n) where
   pub read_ok : (len : ℕ) → len ≡ 512 → read_refusal (run_meaning n xs) b len ≡ None
   read_ok len e = simp (eq-eqb len 512 e, lt-ltb b n lt)
 
-  pub write-ok : (len : ℕ) → len ≡ 512 → write_refusal (run_meaning n xs) b len ≡ None
-  write-ok len e = good-write (run_meaning n xs) b lt len e
+  pub write_ok : (len : ℕ) → len ≡ 512 → write_refusal (run_meaning n xs) b len ≡ None
+  write_ok len e = good_write (run_meaning n xs) b lt len e
 
-  pub handed-ok : (old : List ℕ) → length old ≡ 512 → handed (run_meaning n xs) b old ≡ cut xs b
-  handed-ok old e = simp (eq-eqb (length old) 512 e, lt-ltb b n lt)
+  pub handed_ok : (old : List ℕ) → length old ≡ 512 → handed (run_meaning n xs) b old ≡ cut xs b
+  handed_ok old e = simp (eq-eqb (length old) 512 e, lt-ltb b n lt)
 
-  pub wrote-ok : (v : List ℕ) → length v ≡ 512 → run_wrote n xs b v ≡ pasted xs b v
-  wrote-ok v e = good-checked (run_meaning n xs) b lt (length v) (pasted xs b v) xs e
+  pub wrote_ok : (v : List ℕ) → length v ≡ 512 → run_wrote n xs b v ≡ pasted xs b v
+  wrote_ok v e = good_checked (run_meaning n xs) b lt (length v) (pasted xs b v) xs e
 
 -- ---- a write to the first n blocks of a run
 module _ (n : ℕ) (xs : List ℕ) (room : n * 512 ≤ length xs) (b : ℕ) (v : List ℕ) where
@@ -106,9 +106,9 @@ module _ (n : ℕ) (xs : List ℕ) (room : n * 512 ≤ length xs) (b : ℕ) (v :
   taken lv lt = record {
     level = record { count = refl; height = refl };
     gone = refl;
-    here = cond-true _ _ _ (lt-ltb b n lt) ∙ ap Some (cut-here xs v b lv (fits lt));
+    here = cond-true _ _ _ (lt-ltb b n lt) ∙ ap Some (cut_here xs v b lv (fits lt));
     others = λ k l ne. record {
-      block = ap (λ x. cond (nat_lt k n) (Some x) None) (cut-other xs v b lv (fits lt) k ne);
+      block = ap (λ x. cond (nat_lt k n) (Some x) None) (cut_other xs v b lv (fits lt) k ne);
       gone_origin = refl;
       unreadable_origin = refl;
       unwritable_origin = refl;
@@ -116,25 +116,25 @@ module _ (n : ℕ) (xs : List ℕ) (room : n * 512 ≤ length xs) (b : ℕ) (v :
     costs = λ k l w. w;
   }
 
-  pub run-writes : Written (run_meaning n xs) b v (run_meaning n (run_wrote n xs b v))
-  run-writes = checked_written (run_meaning n) xs (pasted xs b v) b v (λ lv lt. taken_way refl refl (taken lv lt))
+  pub run_writes : Written (run_meaning n xs) b v (run_meaning n (run_wrote n xs b v))
+  run_writes = checked_written (run_meaning n) xs (pasted xs b v) b v (λ lv lt. taken_way refl refl (taken lv lt))
 
   -- what holds of the run and of the run with v in place of block b holds after the write
-  wrote-both : (P : List ℕ → Type 0) → P xs → (length v ≡ 512 → b < n → P (pasted xs b v)) → P (run_wrote n xs b v)
-  wrote-both P old new =
+  wrote_both : (P : List ℕ → Type 0) → P xs → (length v ≡ 512 → b < n → P (pasted xs b v)) → P (run_wrote n xs b v)
+  wrote_both P old new =
       cond_both (length v == 512) (cond (nat_lt b n) (pasted xs b v) xs) xs P
       (λ e. cond_both (nat_lt b n) (pasted xs b v) xs P (λ l. new (eqb-true (length v) 512 e) (ltb-true b n l)) (λ _. old)) (λ _. old)
 
-  pub length-wrote : length (run_wrote n xs b v) ≡ length xs
-  length-wrote = wrote-both (λ ys. length ys ≡ length xs) refl (λ lv lt. length-pasted xs v b lv (fits lt))
+  pub length_wrote : length (run_wrote n xs b v) ≡ length xs
+  length_wrote = wrote_both (λ ys. length ys ≡ length xs) refl (λ lv lt. length_pasted xs v b lv (fits lt))
 
-  pub low-wrote : Low xs → Low v → Low (run_wrote n xs b v)
-  low-wrote h k = wrote-both Low h (λ lv lt. low-pasted xs v b lv (fits lt) h k)
+  pub low_wrote : Low xs → Low v → Low (run_wrote n xs b v)
+  low_wrote h k = wrote_both Low h (λ lv lt. low_pasted xs v b lv (fits lt) h k)
 
   -- what lies beyond the first n blocks
-  pub rest-wrote : drop (n * 512) (run_wrote n xs b v) ≡ drop (n * 512) xs
-  rest-wrote =
-      wrote-both (λ ys. drop (n * 512) ys ≡ drop (n * 512) xs) refl
+  pub rest_wrote : drop (n * 512) (run_wrote n xs b v) ≡ drop (n * 512) xs
+  rest_wrote =
+      wrote_both (λ ys. drop (n * 512) ys ≡ drop (n * 512) xs) refl
       (λ lv lt. drop-put_mid (b * 512) 512 xs v (n * 512) (omega arith) (omega arith) lv)
 
 pub run_sound : (n : ℕ) (xs : List ℕ) → n ≤ most_blocks → n * 512 ≤ length xs → Low xs → Sound (run_meaning n xs)
@@ -143,7 +143,7 @@ run_sound n xs few room low = record {
   low = omega arith;
   sized = λ b v.
       cond_both (nat_lt b n) (Some (cut xs b)) None (λ o. o ≡ Some v → Block v)
-      (λ l e. let q : cut xs b ≡ v = cc in subst Block q (cut-block xs b (let lt = ltb-true b n l in omega arith) low))
+      (λ l e. let q : cut xs b ≡ v = cc in subst Block q (cut_block xs b (let lt = ltb-true b n l in omega arith) low))
       (λ _ e. let z : ◌≡◌ {A = ℕ} 0 1 = cc in absurd (omega arith));
   beyond = λ b l. cond-false _ _ _ (le-ltb b n l);
 }
@@ -159,7 +159,7 @@ pub cell_room : (xs : List ℕ) → length xs ≡ 4096 → 8 * 512 ≤ length xs
 cell_room xs e = omega arith
 
 pub cell_writes : (xs : List ℕ) → length xs ≡ 4096 → (b : ℕ) (v : List ℕ) → Written (cell_meaning xs) b v (cell_meaning (cell_wrote xs b v))
-cell_writes xs long b v = run-writes 8 xs (cell_room xs long) b v
+cell_writes xs long b v = run_writes 8 xs (cell_room xs long) b v
 
 pub cell_lawful : Lawful cell_sound cell_meaning (λ s b n. s) cell_wrote (λ s. s) (λ s. cell_zeros)
 cell_lawful = record {
@@ -170,8 +170,8 @@ cell_lawful = record {
   renews = λ s h. run_renews 8 s cell_zeros;
   seen_sound = λ s b n h. h;
   wrote_sound = λ s b v h k. record {
-    long = length-wrote 8 s (cell_room s h.long) b v ∙ h.long;
-    bytes = low-wrote 8 s (cell_room s h.long) b v h.bytes k.bytes;
+    long = length_wrote 8 s (cell_room s h.long) b v ∙ h.long;
+    bytes = low_wrote 8 s (cell_room s h.long) b v h.bytes k.bytes;
   };
   ticked_sound = λ s h. h;
   renewed_sound = λ s h. record { long = length-replicate {A = ℕ} 4096 0; bytes = bytes_zeros 4096 };
@@ -182,12 +182,12 @@ image_room xs = omega arith
 
 -- a write keeps the count
 pub image_count_wrote : (xs : List ℕ) (b : ℕ) (v : List ℕ) → image_count (image_wrote xs b v) ≡ image_count xs
-image_count_wrote xs b v = ap (λ k. min most_blocks (k / 512)) (length-wrote (image_count xs) xs (image_room xs) b v)
+image_count_wrote xs b v = ap (λ k. min most_blocks (k / 512)) (length_wrote (image_count xs) xs (image_room xs) b v)
 
 pub image_writes : (xs : List ℕ) (b : ℕ) (v : List ℕ) → Written (image_meaning xs) b v (image_meaning (image_wrote xs b v))
 image_writes xs b v =
     subst (λ n. Written (image_meaning xs) b v (run_meaning n (image_wrote xs b v))) (sym (image_count_wrote xs b v))
-    (run-writes (image_count xs) xs (image_room xs) b v)
+    (run_writes (image_count xs) xs (image_room xs) b v)
 
 pub image_lawful : Lawful image_sound image_meaning (λ s b n. s) image_wrote (λ s. s) (λ s. s)
 image_lawful = record {
@@ -197,10 +197,10 @@ image_lawful = record {
   ticks = λ s h. run_ticks (image_count s) s;
   renews = λ s h. run_renews (image_count s) s s;
   seen_sound = λ s b n h. h;
-  wrote_sound = λ s b v h k. record { long = refl; bytes = low-wrote (image_count s) s (image_room s) b v h.bytes k.bytes };
+  wrote_sound = λ s b v h k. record { long = refl; bytes = low_wrote (image_count s) s (image_room s) b v h.bytes k.bytes };
   ticked_sound = λ s h. h;
   renewed_sound = λ s h. h;
 }
 
 pub rest_kept : RestKept
-rest_kept xs b v = rest-wrote (image_count xs) xs (image_room xs) b v
+rest_kept xs b v = rest_wrote (image_count xs) xs (image_room xs) b v

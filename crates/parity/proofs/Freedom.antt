@@ -52,16 +52,16 @@ holds_to None x y e h = tt
 holds_to (Some a) x y e h = h ∙ e refl
 
 module _ (C : Coding) (L : Lawful block_size C) (k : ℕ) (kw : k ≤ C.limit) where
-  mix-zeros : (j : ℕ) → j < k → C.mix j zeros ≡ zeros
-  mix-zeros j l =
+  mix_zeros : (j : ℕ) → j < k → C.mix j zeros ≡ zeros
+  mix_zeros j l =
       let b = (L.single j (omega arith)).there zeros block_zeros in
       sym (ap (C.mix j) zeros_zeros) ∙ L.linear j (omega arith) zeros zeros block_zeros block_zeros ∙ simp xor
 
-  mix-alone : (i : ℕ) (x : List ℕ) (t : ℕ) → t < k → C.mix t (alone i x t) ≡ alone i (C.mix i x) t
-  mix-alone i x t l =
+  mix_alone : (i : ℕ) (x : List ℕ) (t : ℕ) → t < k → C.mix t (alone i x t) ≡ alone i (C.mix i x) t
+  mix_alone i x t l =
       ⊎_elim
       (λ (e : t ≡ i). rw (eq-eqb t i e) (ap (λ n. C.mix n x) e))
-      (λ (n : t ≡ i → ⊥). rw (ne_eqb t i n) (mix-zeros t l))
+      (λ (n : t ≡ i → ⊥). rw (ne_eqb t i n) (mix_zeros t l))
       (cases_eq t i)
 
   -- a difference at three columns
@@ -69,26 +69,26 @@ module _ (C : Coding) (L : Lawful block_size C) (k : ℕ) (kw : k ≤ C.limit) w
     abbrev diff : ℕ → List ℕ
     diff t = alone i x t ⊕ (alone j y t ⊕ alone l z t)
 
-    alone-block : (n : ℕ) (v : List ℕ) → Block v → (t : ℕ) → Block (alone n v t)
-    alone-block n v b t = put_block (λ _. zeros) n v b t block_zeros
+    alone_block : (n : ℕ) (v : List ℕ) → Block v → (t : ℕ) → Block (alone n v t)
+    alone_block n v b t = put_block (λ _. zeros) n v b t block_zeros
 
-    diff-block : (t : ℕ) → Block (diff t)
-    diff-block t = block_add _ _ (alone-block i x bx t) (block_add _ _ (alone-block j y by t) (alone-block l z bz t))
+    diff_block : (t : ℕ) → Block (diff t)
+    diff_block t = block_add _ _ (alone_block i x bx t) (block_add _ _ (alone_block j y by t) (alone_block l z bz t))
 
-    diff-sum : sum k diff ≡ x ⊕ (y ⊕ z)
-    diff-sum =
+    diff_sum : sum k diff ≡ x ⊕ (y ⊕ z)
+    diff_sum =
         sum_add k (alone i x) (λ t. alone j y t ⊕ alone l z t)
         ∙ ap₂ ◌⊕◌ (alone_sum k i x li bx) (sum_add k (alone j y) (alone l z) ∙ ap₂ ◌⊕◌ (alone_sum k j y lj by) (alone_sum k l z ll bz))
 
-    diff-mix : sum k (λ t. C.mix t (diff t)) ≡ C.mix i x ⊕ (C.mix j y ⊕ C.mix l z)
-    diff-mix =
+    diff_mix : sum k (λ t. C.mix t (diff t)) ≡ C.mix i x ⊕ (C.mix j y ⊕ C.mix l z)
+    diff_mix =
         sum_cong k (λ t. C.mix t (diff t)) (λ t. alone i (C.mix i x) t ⊕ (alone j (C.mix j y) t ⊕ alone l (C.mix l z) t))
         (λ t m.
-        let ai = alone-block i x bx t in
-        let aj = alone-block j y by t in
-        let al = alone-block l z bz t in
+        let ai = alone_block i x bx t in
+        let aj = alone_block j y by t in
+        let al = alone_block l z bz t in
         L.linear t (omega arith) (alone i x t) (alone j y t ⊕ alone l z t) ai (block_add _ _ aj al)
-        ∙ ap₂ ◌⊕◌ (mix-alone i x t m) (L.linear t (omega arith) (alone j y t) (alone l z t) aj al ∙ ap₂ ◌⊕◌ (mix-alone j y t m) (mix-alone l z t m)))
+        ∙ ap₂ ◌⊕◌ (mix_alone i x t m) (L.linear t (omega arith) (alone j y t) (alone l z t) aj al ∙ ap₂ ◌⊕◌ (mix_alone j y t m) (mix_alone l z t m)))
         ∙ sum_add k (alone i (C.mix i x)) (λ t. alone j (C.mix j y) t ⊕ alone l (C.mix l z) t)
         ∙ ap₂ ◌⊕◌ (alone_sum k i (C.mix i x) li ((L.single i (omega arith)).there x bx))
         (sum_add k (alone j (C.mix j y)) (alone l (C.mix l z))
@@ -115,8 +115,8 @@ module _ (C : Coding) (L : Lawful block_size C) (k : ℕ) (kw : k ≤ C.limit) w
         ])
         (fit t lt)
 
-    alone-present : (n : ℕ) (v : List ℕ) → is_some (cols n) ≡ false → (t : ℕ) → is_some (cols t) ≡ true → alone n v t ≡ zeros
-    alone-present n v h t p = put_other (λ _. zeros) n v t (λ e. both_ways _ h (subst (λ m. is_some (cols m) ≡ true) e p))
+    alone_present : (n : ℕ) (v : List ℕ) → is_some (cols n) ≡ false → (t : ℕ) → is_some (cols t) ≡ true → alone n v t ≡ zeros
+    alone_present n v h t p = put_other (λ _. zeros) n v t (λ e. both_ways _ h (subst (λ m. is_some (cols m) ≡ true) e p))
 
     -- the free column i differs by x, and two more make up for it
     freed : (i j l : ℕ) (li : i < k) (lj : j < k) (ll : l < k) (x y z : List ℕ) → Block x → Block y → Block z
@@ -125,19 +125,19 @@ module _ (C : Coding) (L : Lawful block_size C) (k : ℕ) (kw : k ≤ C.limit) w
         → (d : ℕ → List ℕ) × Content k d × Fits C k d cols × (d i ≡ c i → ⊥)
     freed i j l li lj ll x y z bx by bz hi hj hl yi zi nx zp zq =
         let δ : ℕ → List ℕ = diff i j l li lj ll x y z bx by bz in
-        let hδ : Content k δ = λ t _. diff-block i j l li lj ll x y z bx by bz t in
+        let hδ : Content k δ = λ t _. diff_block i j l li lj ll x y z bx by bz t in
         let at_i : δ i ≡ x = ap₂ (λ u v. u ⊕ v) (put_same (λ _. zeros) i x) (ap₂ ◌⊕◌ yi zi ∙ zeros_zeros) ∙ add_zeros x bx in (
           (λ t. c t ⊕ δ t),
           (λ t m. block_add _ _ (hc t m) (hδ t m)),
           shifted δ hδ
-              (λ t m p. ap₂ ◌⊕◌ (alone-present i x hi t p) (ap₂ ◌⊕◌ (alone-present j y hj t p) (alone-present l z hl t p) ∙ zeros_zeros) ∙ zeros_zeros)
-              (λ p. diff-sum i j l li lj ll x y z bx by bz ∙ zp p)
-              (λ p. diff-mix i j l li lj ll x y z bx by bz ∙ zq p),
+              (λ t m p. ap₂ ◌⊕◌ (alone_present i x hi t p) (ap₂ ◌⊕◌ (alone_present j y hj t p) (alone_present l z hl t p) ∙ zeros_zeros) ∙ zeros_zeros)
+              (λ p. diff_sum i j l li lj ll x y z bx by bz ∙ zp p)
+              (λ p. diff_mix i j l li lj ll x y z bx by bz ∙ zq p),
           (λ e. nx (sym at_i ∙ sym (self_left (c i) (δ i) (hc i li) (hδ i li)) ∙ ap (λ v. c i ⊕ v) e ∙ add_self (c i) (hc i li))),
         )
 
-    zero-alone : (n i : ℕ) → alone n zeros i ≡ zeros
-    zero-alone n i = cond_both (eqb i n) zeros zeros (λ v. v ≡ zeros) (λ _. refl) (λ _. refl)
+    zero_alone : (n i : ℕ) → alone n zeros i ≡ zeros
+    zero_alone n i = cond_both (eqb i n) zeros zeros (λ v. v ≡ zeros) (λ _. refl) (λ _. refl)
 
     module _ (i : ℕ) (li : i < k) (hi : is_some (cols i) ≡ false) (x : List ℕ) (bx : Block x) (nx : x ≡ zeros → ⊥) where
       free : (p q : Bool) → is_some (cols k) ≡ p → is_some (cols (k + 1)) ≡ q → 3 ≤ length (gaps cols k) + cond p 0 1 + cond q 0 1
@@ -169,7 +169,7 @@ module _ (C : Coding) (L : Lawful block_size C) (k : ℕ) (kw : k ≤ C.limit) w
           let j = one.0 in
           let oj : Other cols k i j = one.1 in
           freed i j i li oj.below li x x zeros bx bx block_zeros hi oj.lost hi
-          (put_other (λ _. zeros) j x i (λ e. oj.apart (sym e))) (zero-alone i i) nx
+          (put_other (λ _. zeros) j x i (λ e. oj.apart (sym e))) (zero_alone i i) nx
           (λ _. simp xor)
           (λ r. absurd (both_ways _ eq r))
       free false true ep eq n =
@@ -181,11 +181,11 @@ module _ (C : Coding) (L : Lawful block_size C) (k : ℕ) (kw : k ≤ C.limit) w
           let y : List ℕ = C.unmix j (C.mix i x) in
           let by : Block y = (L.single j (omega arith)).back (C.mix i x) bi in
           freed i j i li lj li x y zeros bx by block_zeros hi oj.lost hi
-          (put_other (λ _. zeros) j y i (λ e. oj.apart (sym e))) (zero-alone i i) nx
+          (put_other (λ _. zeros) j y i (λ e. oj.apart (sym e))) (zero_alone i i) nx
           (λ r. absurd (both_ways _ ep r))
-          (λ _. ap₂ (λ u v. C.mix i x ⊕ (u ⊕ v)) ((L.single j (omega arith)).redone (C.mix i x) bi) (mix-zeros i li) ∙ simp xor)
+          (λ _. ap₂ (λ u v. C.mix i x ⊕ (u ⊕ v)) ((L.single j (omega arith)).redone (C.mix i x) bi) (mix_zeros i li) ∙ simp xor)
       free false false ep eq n =
-          freed i i i li li li x zeros zeros bx block_zeros block_zeros hi hi hi (zero-alone i i) (zero-alone i i) nx
+          freed i i i li li li x zeros zeros bx block_zeros block_zeros hi hi hi (zero_alone i i) (zero_alone i i) nx
           (λ r. absurd (both_ways _ ep r))
           (λ r. absurd (both_ways _ eq r))
 

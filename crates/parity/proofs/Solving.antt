@@ -22,21 +22,21 @@ module _ (C : Coding) (L : Lawful block_size C) (k : ℕ) (kw : k ≤ C.limit) (
 
   -- ---- each case of loss, from what the two sums then are
   -- nothing of the data is lost
-  find-parity : (p q : Bool) (a b : List ℕ) → a ≡ sum k c ⊕ zeros ⊕ cond p (sum k c) zeros ⊕ zeros → b ≡ sum k mc ⊕ zeros ⊕ zeros ⊕ cond q (sum k mc) zeros
+  find_parity : (p q : Bool) (a b : List ℕ) → a ≡ sum k c ⊕ zeros ⊕ cond p (sum k c) zeros ⊕ zeros → b ≡ sum k mc ⊕ zeros ⊕ zeros ⊕ cond q (sum k mc) zeros
       → (t : ℕ) → Kind k t → (t < k → ⊥) → (t ≡ k → p ≡ false) → (t ≡ k + 1 → q ≡ false) → by_way C (way k [] p t) a b ≡ column C k c t
-  find-parity p q a b ea eb t (is_data l) hd hp hq = absurd (hd l)
-  find-parity p q a b ea eb t (is_P e) hd hp hq =
+  find_parity p q a b ea eb t (is_data l) hd hp hq = absurd (hd l)
+  find_parity p q a b ea eb t (is_P e) hd hp hq =
       let bs = sum_block k c hc in
       rw (eq-eqb t k e) (ea ∙ rw (hp e, column_P C k c t e) (simp xor))
-  find-parity p q a b ea eb t (is_Q e) hd hp hq =
+  find_parity p q a b ea eb t (is_Q e) hd hp hq =
       let bs = sum_block k mc hm in
       let n : t ≡ k → ⊥ = omega arith in
       rw (ne_eqb t k n) (eb ∙ rw (hq e, column_Q C k c t e) (simp xor))
 
   -- one data column is lost, and P is present
-  find-with-P : (i : ℕ) → i < k → (q : Bool) (a b : List ℕ) → a ≡ sum k c ⊕ (c i ⊕ zeros) ⊕ sum k c ⊕ zeros → b ≡ sum k mc ⊕ (mc i ⊕ zeros) ⊕ zeros ⊕ cond q (sum k mc) zeros
+  find_with_P : (i : ℕ) → i < k → (q : Bool) (a b : List ℕ) → a ≡ sum k c ⊕ (c i ⊕ zeros) ⊕ sum k c ⊕ zeros → b ≡ sum k mc ⊕ (mc i ⊕ zeros) ⊕ zeros ⊕ cond q (sum k mc) zeros
       → (t : ℕ) → Kind k t → (t < k → t ≡ i) → (t ≡ k → ⊥) → (t ≡ k + 1 → q ≡ false) → by_way C (way k (i ∷ []) true t) a b ≡ column C k c t
-  find-with-P i li q a b ea eb t kt hd hp hq =
+  find_with_P i li q a b ea eb t kt hd hp hq =
       let bs = sum_block k c hc in
       let bm = sum_block k mc hm in
       let bi = hc i li in
@@ -49,9 +49,9 @@ module _ (C : Coding) (L : Lawful block_size C) (k : ℕ) (kw : k ≤ C.limit) (
       ]
 
   -- one data column and P are lost
-  find-with-Q : (i : ℕ) → i < k → (a b : List ℕ) → a ≡ sum k c ⊕ (c i ⊕ zeros) ⊕ zeros ⊕ zeros → b ≡ sum k mc ⊕ (mc i ⊕ zeros) ⊕ zeros ⊕ sum k mc
+  find_with_Q : (i : ℕ) → i < k → (a b : List ℕ) → a ≡ sum k c ⊕ (c i ⊕ zeros) ⊕ zeros ⊕ zeros → b ≡ sum k mc ⊕ (mc i ⊕ zeros) ⊕ zeros ⊕ sum k mc
       → (t : ℕ) → Kind k t → (t < k → t ≡ i) → (t ≡ k + 1 → ⊥) → by_way C (way k (i ∷ []) false t) a b ≡ column C k c t
-  find-with-Q i li a b ea eb t kt hd hq =
+  find_with_Q i li a b ea eb t kt hd hq =
       let bs = sum_block k c hc in
       let bm = sum_block k mc hm in
       let bi = hc i li in
@@ -65,8 +65,8 @@ module _ (C : Coding) (L : Lawful block_size C) (k : ℕ) (kw : k ≤ C.limit) (
       ]
 
   -- the first of two lost data columns, from a = c i ⊕ c j and b = the ⊕ of their mixings
-  find-pair : (i j : ℕ) → i < k → j < k → (i ≡ j → ⊥) → (a b : List ℕ) → a ≡ c i ⊕ c j → b ≡ mc i ⊕ mc j → by_way C (Pair i j) a b ≡ c i
-  find-pair i j li lj n a b ea eb =
+  find_pair : (i j : ℕ) → i < k → j < k → (i ≡ j → ⊥) → (a b : List ℕ) → a ≡ c i ⊕ c j → b ≡ mc i ⊕ mc j → by_way C (Pair i j) a b ≡ c i
+  find_pair i j li lj n a b ea eb =
       let bi = hc i li in
       let bj = hc j lj in
       let bmi : Block (C.mix i (c i)) = hm i li in
@@ -76,9 +76,9 @@ module _ (C : Coding) (L : Lawful block_size C) (k : ℕ) (kw : k ≤ C.limit) (
       let m-is : b ⊕ C.mix j a ≡ C.mix i (c i) ⊕ C.mix j (c i) = rw (ea, b-is, L.linear j (omega arith) (c i) (c j) bi bj) (simp xor) in
       ap (C.unpair i j) m-is ∙ (L.double i j (omega arith) (omega arith) n).undone (c i) bi
 
-  find-two : (i j : ℕ) (p : Bool) → i < k → j < k → (i ≡ j → ⊥) → (a b : List ℕ) → a ≡ sum k c ⊕ (c i ⊕ (c j ⊕ zeros)) ⊕ sum k c ⊕ zeros → b ≡ sum k mc ⊕ (mc i ⊕ (mc j ⊕ zeros)) ⊕ zeros ⊕ sum k mc
+  find_two : (i j : ℕ) (p : Bool) → i < k → j < k → (i ≡ j → ⊥) → (a b : List ℕ) → a ≡ sum k c ⊕ (c i ⊕ (c j ⊕ zeros)) ⊕ sum k c ⊕ zeros → b ≡ sum k mc ⊕ (mc i ⊕ (mc j ⊕ zeros)) ⊕ zeros ⊕ sum k mc
       → (t : ℕ) → t < k → (t ≡ i) ⊎ (t ≡ j) → by_way C (way k (i ∷ (j ∷ [])) p t) a b ≡ column C k c t
-  find-two i j p li lj n a b ea eb t lt ht =
+  find_two i j p li lj n a b ea eb t lt ht =
       let bs = sum_block k c hc in
       let bm = sum_block k mc hm in
       let bi = hc i li in
@@ -91,14 +91,14 @@ module _ (C : Coding) (L : Lawful block_size C) (k : ℕ) (kw : k ≤ C.limit) (
       let b-back : b ≡ mc j ⊕ mc i = b-is ∙ (let r : mc i ⊕ mc j ≡ mc j ⊕ mc i = simp xor in r) in
       let m : j ≡ i → ⊥ = λ e. n (sym e) in
       ⊎_elim
-      (λ (e : t ≡ i). rw (eq-eqb t i e) (find-pair i j li lj n a b a-is b-is ∙ ap c (sym e) ∙ sym (column_data C k c t lt)))
-      (λ (e : t ≡ j). let d : t ≡ i → ⊥ = λ f. n (sym f ∙ e) in rw (ne_eqb t i d) (find-pair j i lj li m a b a_back b-back ∙ ap c (sym e) ∙ sym (column_data C k c t lt)))
+      (λ (e : t ≡ i). rw (eq-eqb t i e) (find_pair i j li lj n a b a-is b-is ∙ ap c (sym e) ∙ sym (column_data C k c t lt)))
+      (λ (e : t ≡ j). let d : t ≡ i → ⊥ = λ f. n (sym f ∙ e) in rw (ne_eqb t i d) (find_pair j i lj li m a b a_back b-back ∙ ap c (sym e) ∙ sym (column_data C k c t lt)))
       ht
 
   -- ---- the two sums, where c fits
   module _ (cols : ℕ → Option (List ℕ)) (fit : Fits C k c cols) where
-    plain-is : (g : List ℕ) → gaps cols k ≡ g → (p : Bool) → is_some (cols k) ≡ p → plain_sum k cols (k + 2) ≡ sum k c ⊕ over c g ⊕ cond p (sum k c) zeros ⊕ zeros
-    plain-is g eg p ep =
+    plain_is : (g : List ℕ) → gaps cols k ≡ g → (p : Bool) → is_some (cols k) ≡ p → plain_sum k cols (k + 2) ≡ sum k c ⊕ over c g ⊕ cond p (sum k c) zeros ⊕ zeros
+    plain_is g eg p ep =
         sum_two_more (λ t. if_present (plain_part k t) (cols t)) k
         ∙ ap₂ ◌⊕◌
         (ap₂ ◌⊕◌
@@ -109,8 +109,8 @@ module _ (C : Coding) (L : Lawful block_size C) (k : ℕ) (kw : k ≤ C.limit) (
         ∙ ap (λ x. cond x (sum k c) zeros) ep))
         (part_none (plain_part k (k + 1)) (cols (k + 1)) (λ b. plain_Q k (k + 1) b (omega arith)))
 
-    mixed-is : (g : List ℕ) → gaps cols k ≡ g → (q : Bool) → is_some (cols (k + 1)) ≡ q → mixed_sum C k cols (k + 2) ≡ sum k mc ⊕ over mc g ⊕ zeros ⊕ cond q (sum k mc) zeros
-    mixed-is g eg q eq =
+    mixed_is : (g : List ℕ) → gaps cols k ≡ g → (q : Bool) → is_some (cols (k + 1)) ≡ q → mixed_sum C k cols (k + 2) ≡ sum k mc ⊕ over mc g ⊕ zeros ⊕ cond q (sum k mc) zeros
+    mixed_is g eg q eq =
         sum_two_more (λ t. if_present (mixed_part C k t) (cols t)) k
         ∙ ap₂ ◌⊕◌
         (ap₂ ◌⊕◌
@@ -126,19 +126,19 @@ module _ (C : Coding) (L : Lawful block_size C) (k : ℕ) (kw : k ≤ C.limit) (
         → length g + cond p 0 1 + cond q 0 1 ≤ 2 → (t : ℕ) → t < k + 2 → is_some (cols t) ≡ false
         → by_way C (way k g p t) (plain_sum k cols (k + 2)) (mixed_sum C k cols (k + 2)) ≡ column C k c t
     found [] eg p ep q eq n t l h =
-        find-parity p q _ _ (plain-is [] eg p ep) (mixed-is [] eg q eq) t (kind k t l)
+        find_parity p q _ _ (plain_is [] eg p ep) (mixed_is [] eg q eq) t (kind k t l)
         (λ m. subst (In t) eg (gaps_in cols k t m h))
         (λ e. sym ep ∙ subst (λ x. is_some (cols x) ≡ false) e h)
         (λ e. sym eq ∙ subst (λ x. is_some (cols x) ≡ false) e h)
     found (i ∷ []) eg true ep q eq n t l h =
         let first = gaps_first cols k i [] eg in
-        find-with-P i first.0 q _ _ (plain-is (i ∷ []) eg true ep) (mixed-is (i ∷ []) eg q eq) t (kind k t l)
+        find_with_P i first.0 q _ _ (plain_is (i ∷ []) eg true ep) (mixed_is (i ∷ []) eg q eq) t (kind k t l)
         (λ m. ⊎_elim (λ e. e) (λ z. absurd z) (subst (In t) eg (gaps_in cols k t m h)))
         (λ e. both_ways _ (subst (λ x. is_some (cols x) ≡ false) e h) ep)
         (λ e. sym eq ∙ subst (λ x. is_some (cols x) ≡ false) e h)
     found (i ∷ []) eg false ep true eq n t l h =
         let first = gaps_first cols k i [] eg in
-        find-with-Q i first.0 _ _ (plain-is (i ∷ []) eg false ep) (mixed-is (i ∷ []) eg true eq) t (kind k t l)
+        find_with_Q i first.0 _ _ (plain_is (i ∷ []) eg false ep) (mixed_is (i ∷ []) eg true eq) t (kind k t l)
         (λ m. ⊎_elim (λ e. e) (λ z. absurd z) (subst (In t) eg (gaps_in cols k t m h)))
         (λ e. both_ways _ (subst (λ x. is_some (cols x) ≡ false) e h) eq)
     found (i ∷ []) eg false ep false eq n t l h = absurd (omega arith)
@@ -150,8 +150,8 @@ module _ (C : Coding) (L : Lawful block_size C) (k : ℕ) (kw : k ≤ C.limit) (
           | is_P e ↦ absurd (both_ways _ (subst (λ x. is_some (cols x) ≡ false) e h) ep)
           | is_Q e ↦ absurd (both_ways _ (subst (λ x. is_some (cols x) ≡ false) e h) eq)
         ] in
-        find-two i j true first.0 (omega (arith, first.0, second.0)) (omega (arith, second.0)) _ _
-        (plain-is (i ∷ (j ∷ [])) eg true ep) (mixed-is (i ∷ (j ∷ [])) eg true eq) t d
+        find_two i j true first.0 (omega (arith, first.0, second.0)) (omega (arith, second.0)) _ _
+        (plain_is (i ∷ (j ∷ [])) eg true ep) (mixed_is (i ∷ (j ∷ [])) eg true eq) t d
         (⊎_elim (λ e. inl e) (⊎_elim (λ e. inr e) (λ z. absurd z)) (subst (In t) eg (gaps_in cols k t d h)))
     found (i ∷ (j ∷ [])) eg true ep false eq n t l h = absurd (omega arith)
     found (i ∷ (j ∷ [])) eg false ep true eq n t l h = absurd (omega arith)

@@ -8,37 +8,37 @@ use Rattle.code.proofs.Blocks.{add_assoc, length_add, get_or_add}
 use Rattle.prime.specs.Rows.{xors, cell, rows, shifted, everywhere}
 use Rattle.prime.specs.Diagonals.{walk, steps, closed, solved, inverse_below, gap, unpaired, unpaired_block, unadjusted, unadjusted_block, rdp, evenodd}
 use Rattle.prime.proofs.Xors.{xors_same}
-use Rattle.prime.proofs.Grids.{length-rows, cell-rows, is-rows, rows_same, rows-add}
+use Rattle.prime.proofs.Grids.{length_rows, cell_rows, is_rows, rows_same, rows_add}
 use Rattle.prime.proofs.Sizes.{Sizes}
 
 module _ (p w n : ℕ) (S : Sizes p w n) where
   -- a shift counts modulo p
-  shifted-fold : (s : ℕ) (b : List ℕ) → shifted p w (s % p) b ≡ shifted p w s b
-  shifted-fold s b = rows_same p w S.wide (λ r t. cell w b ((r + s % p) % p) t) (λ r t. cell w b ((r + s) % p) t) (λ r t _ _. ap (λ k. cell w b k t) (add-mod-mod r s p))
+  shifted_fold : (s : ℕ) (b : List ℕ) → shifted p w (s % p) b ≡ shifted p w s b
+  shifted_fold s b = rows_same p w S.wide (λ r t. cell w b ((r + s % p) % p) t) (λ r t. cell w b ((r + s) % p) t) (λ r t _ _. ap (λ k. cell w b k t) (add-mod-mod r s p))
 
   -- two blocks of rows added one after the other
   both : (into x out : List ℕ) (f g : ℕ → ℕ → ℕ) → x ≡ into ⊕ rows p w f → out ≡ x ⊕ rows p w g → out ≡ into ⊕ rows p w (λ r t. bit_xor (f r t) (g r t))
-  both into x out f g ex eo = eo ∙ ap (λ y. y ⊕ rows p w g) ex ∙ add_assoc into (rows p w f) (rows p w g) ∙ ap (λ y. into ⊕ y) (rows-add p w S.wide f g)
+  both into x out f g ex eo = eo ∙ ap (λ y. y ⊕ rows p w g) ex ∙ add_assoc into (rows p w f) (rows p w g) ∙ ap (λ y. into ⊕ y) (rows_add p w S.wide f g)
 
-  pub rdp-mixed : (j : ℕ) (b into x out : List ℕ) → x ≡ into ⊕ shifted p w ((p - j) % p) b → out ≡ x ⊕ shifted p w 1 b → out ≡ into ⊕ (rdp p w).mix j b
-  rdp-mixed j b into x out ex eo =
-      both into x out (λ r t. cell w b ((r + (p - j)) % p) t) (λ r t. cell w b ((r + 1) % p) t) (ex ∙ ap (λ y. into ⊕ y) (shifted-fold (p - j) b)) eo
+  pub rdp_mixed : (j : ℕ) (b into x out : List ℕ) → x ≡ into ⊕ shifted p w ((p - j) % p) b → out ≡ x ⊕ shifted p w 1 b → out ≡ into ⊕ (rdp p w).mix j b
+  rdp_mixed j b into x out ex eo =
+      both into x out (λ r t. cell w b ((r + (p - j)) % p) t) (λ r t. cell w b ((r + 1) % p) t) (ex ∙ ap (λ y. into ⊕ y) (shifted_fold (p - j) b)) eo
 
-  pub evenodd-mixed : (j : ℕ) (b into x out : List ℕ) → x ≡ into ⊕ shifted p w ((p - j) % p) b → out ≡ x ⊕ everywhere p w (p - 1 - j) b → out ≡ into ⊕ (evenodd p w).mix j b
-  evenodd-mixed j b into x out ex eo =
-      both into x out (λ r t. cell w b ((r + (p - j)) % p) t) (λ _ t. cell w b (p - 1 - j) t) (ex ∙ ap (λ y. into ⊕ y) (shifted-fold (p - j) b)) eo
+  pub evenodd_mixed : (j : ℕ) (b into x out : List ℕ) → x ≡ into ⊕ shifted p w ((p - j) % p) b → out ≡ x ⊕ everywhere p w (p - 1 - j) b → out ≡ into ⊕ (evenodd p w).mix j b
+  evenodd_mixed j b into x out ex eo =
+      both into x out (λ r t. cell w b ((r + (p - j)) % p) t) (λ _ t. cell w b (p - 1 - j) t) (ex ∙ ap (λ y. into ⊕ y) (shifted_fold (p - j) b)) eo
 
-  zeros-add-rows : (z : List ℕ) (f : ℕ → ℕ → ℕ) → length z ≡ n → ((k : ℕ) → get_or z k 0 ≡ 0) → z ⊕ rows p w f ≡ rows p w f
-  zeros-add-rows z f lz hz = is-rows p w S.wide (z ⊕ rows p w f) f (length_add ((p - 1) * w) z (rows p w f) (lz ∙ sym S.whole) lf) (λ r t l m.
-      get_or_add z (rows p w f) (lz ∙ sym S.whole ∙ sym lf) (r * w + t) ∙ ap (λ y. bit_xor y (cell w (rows p w f) r t)) (hz (r * w + t)) ∙ xor_zero_l (cell w (rows p w f) r t) ∙ cell-rows p w S.wide f r t l m)
+  zeros_add_rows : (z : List ℕ) (f : ℕ → ℕ → ℕ) → length z ≡ n → ((k : ℕ) → get_or z k 0 ≡ 0) → z ⊕ rows p w f ≡ rows p w f
+  zeros_add_rows z f lz hz = is_rows p w S.wide (z ⊕ rows p w f) f (length_add ((p - 1) * w) z (rows p w f) (lz ∙ sym S.whole) lf) (λ r t l m.
+      get_or_add z (rows p w f) (lz ∙ sym S.whole ∙ sym lf) (r * w + t) ∙ ap (λ y. bit_xor y (cell w (rows p w f) r t)) (hz (r * w + t)) ∙ xor_zero_l (cell w (rows p w f) r t) ∙ cell_rows p w S.wide f r t l m)
     where
       lf : length (rows p w f) ≡ (p - 1) * w
-      lf = length-rows p w S.wide f
+      lf = length_rows p w S.wide f
 
-  pub evenodd-unmixed : (j : ℕ) (b z x out : List ℕ) → length z ≡ n → ((k : ℕ) → get_or z k 0 ≡ 0) → x ≡ z ⊕ shifted p w j b → out ≡ x ⊕ everywhere p w ((p - 1 + j) % p) b → out ≡ (evenodd p w).unmix j b
-  evenodd-unmixed j b z x out lz hz ex eo =
+  pub evenodd_unmixed : (j : ℕ) (b z x out : List ℕ) → length z ≡ n → ((k : ℕ) → get_or z k 0 ≡ 0) → x ≡ z ⊕ shifted p w j b → out ≡ x ⊕ everywhere p w ((p - 1 + j) % p) b → out ≡ (evenodd p w).unmix j b
+  evenodd_unmixed j b z x out lz hz ex eo =
       both z x out (λ r t. cell w b ((r + j) % p) t) (λ _ t. cell w b ((p - 1 + j) % p) t) ex eo
-      ∙ zeros-add-rows z (λ r t. bit_xor (cell w b ((r + j) % p) t) (cell w b ((p - 1 + j) % p) t)) lz hz
+      ∙ zeros_add_rows z (λ r t. bit_xor (cell w b ((r + j) % p) t) (cell w b ((p - 1 + j) % p) t)) lz hz
 
 -- what solves a column looks at the rows below p − 1 alone
 closed_same : (p : ℕ) (a b : ℕ → ℕ) → ((r : ℕ) → r < p - 1 → a r ≡ b r) → (r : ℕ) → closed p a r ≡ closed p b r
@@ -57,4 +57,4 @@ pub evenodd_unpaired : (p w n : ℕ) → Sizes p w n → (i j : ℕ) (b x out : 
 evenodd_unpaired p w n S i j b x out ex eo =
     eo ∙ rows_same p w S.wide (λ k t. unpaired p (p - i) (p - j) (λ r. cell w x r t) k) (λ k t. unpaired p (p - i) (p - j) (unadjusted p (λ r. cell w b r t)) k) (λ k t _ ht.
     solved_same p (p - i) (gap p (p - i) (p - j)) (inverse_below p (gap p (p - i) (p - j)) p) (λ r. cell w x r t) (unadjusted p (λ r. cell w b r t)) (λ r hr.
-    ap (λ (y : List ℕ). cell w y r t) ex ∙ cell-rows p w S.wide (λ r t. unadjusted p (λ k. cell w b k t) r) r t hr ht) k)
+    ap (λ (y : List ℕ). cell w y r t) ex ∙ cell_rows p w S.wide (λ r t. unadjusted p (λ k. cell w b k t) r) r t hr ht) k)

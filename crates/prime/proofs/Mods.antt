@@ -8,12 +8,12 @@ module _ (p : ℕ) where
   pub add_cong : (x y z : ℕ) → x % p ≡ y % p → (x + z) % p ≡ (y + z) % p
   add_cong x y z h = sym (mod-add-mod x p z) ∙ ap (λ n. (n + z) % p) h ∙ mod-add-mod y p z
 
-  pub add-cong-r : (z x y : ℕ) → x % p ≡ y % p → (z + x) % p ≡ (z + y) % p
-  add-cong-r z x y h = sym (add-mod-mod z x p) ∙ ap (λ n. (z + n) % p) h ∙ add-mod-mod z y p
+  pub add_cong_r : (z x y : ℕ) → x % p ≡ y % p → (z + x) % p ≡ (z + y) % p
+  add_cong_r z x y h = sym (add-mod-mod z x p) ∙ ap (λ n. (z + n) % p) h ∙ add-mod-mod z y p
 
-  pub mul-cong : (x y z : ℕ) → x % p ≡ y % p → (x * z) % p ≡ (y * z) % p
-  mul-cong x y zero h = rw (mul-zero x, mul-zero y)
-  mul-cong x y (suc z) h = rw (mul-suc x z, mul-suc y z) (add_cong (x * z) (y * z) x (mul-cong x y z h) ∙ add-cong-r (y * z) x y h)
+  pub mul_cong : (x y z : ℕ) → x % p ≡ y % p → (x * z) % p ≡ (y * z) % p
+  mul_cong x y zero h = rw (mul-zero x, mul-zero y)
+  mul_cong x y (suc z) h = rw (mul-suc x z, mul-suc y z) (add_cong (x * z) (y * z) x (mul_cong x y z h) ∙ add_cong_r (y * z) x y h)
 
   pub cancel : 0 < p → (x y z : ℕ) → (x + z) % p ≡ (y + z) % p → x % p ≡ y % p
   cancel pos x y z h = back x ∙ add_cong (x + z) (y + z) (z * (p - 1)) h ∙ sym (back y)

@@ -13,9 +13,9 @@ use Rattle.code.specs.Blocks.{◌⊕◌, onto}
 use Rattle.code.proofs.Blocks.{length_onto, get_or_onto, onto_same, is_onto}
 use Rattle.prime.specs.Rows.{cell, rows, repeated, everywhere, sum_at, row_sums}
 use Rattle.prime.specs.Diagonals.{closed, unadjusted, unadjusted_block}
-use Rattle.prime.proofs.Mods.{add_cong, add-cong-r}
+use Rattle.prime.proofs.Mods.{add_cong, add_cong_r}
 use Rattle.prime.proofs.Shifts.{closed_in, closed_end}
-use Rattle.prime.proofs.Grids.{length-rows, cell-rows, is-rows, rows_same}
+use Rattle.prime.proofs.Grids.{length_rows, cell_rows, is_rows, rows_same}
 use Rattle.prime.proofs.Sizes.{Sizes}
 use Rattle.prime.proofs.Runs.{is_add_rows}
 
@@ -36,12 +36,12 @@ paste_above d at s n i h l m = search (rules, places)
 
 pub other_row : (w : ℕ) (d : List ℕ) (k : ℕ) (s : List ℕ) (i t : ℕ) → k * w + w ≤ length d → w ≤ length s → t < w → (i ≡ k → ⊥) → cell w (paste d (k * w) s w) i t ≡ cell w d i t
 other_row w d k s i t h l m ne = elim (cases_lt i k) [
-  | inl q ↦ paste_below d (k * w) s w (i * w + t) h l (omega (arith, mul-le (suc i) w k w (omega arith) (omega arith), suc-row i))
-  | inr q ↦ paste_above d (k * w) s w (i * w + t) h l (omega (arith, mul-le (suc k) w i w (omega arith) (omega arith), suc-row k))
+  | inl q ↦ paste_below d (k * w) s w (i * w + t) h l (omega (arith, mul-le (suc i) w k w (omega arith) (omega arith), suc_row i))
+  | inr q ↦ paste_above d (k * w) s w (i * w + t) h l (omega (arith, mul-le (suc k) w i w (omega arith) (omega arith), suc_row k))
 ]
   where
-    suc-row : (i : ℕ) → suc i * w ≡ i * w + w
-    suc-row i = suc-mul i w
+    suc_row : (i : ℕ) → suc i * w ≡ i * w + w
+    suc_row i = suc-mul i w
 
 -- the rows of b and, as row p − 1, their ⊕
 abbrev pub Closes : ℕ → ℕ → List ℕ → List ℕ → Type 0
@@ -70,8 +70,8 @@ module _ (p w n : ℕ) (S : Sizes p w n) (row : List ℕ) where
   }
 
   -- the row written at the start of a block
-  pub filled-first : (d s : List ℕ) → length d ≡ n → length row ≡ w → s ≡ paste d (0 * w) row w → Filled w n row s w
-  filled-first d s ld lr e = filled_none s (ap length e ∙ length-paste d (0 * w) row w (omega (arith, S.short)) (omega arith) ∙ ld) (λ k m.
+  pub filled_first : (d s : List ℕ) → length d ≡ n → length row ≡ w → s ≡ paste d (0 * w) row w → Filled w n row s w
+  filled_first d s ld lr e = filled_none s (ap length e ∙ length-paste d (0 * w) row w (omega (arith, S.short)) (omega arith) ∙ ld) (λ k m.
       ap (λ (x : List ℕ). get_or x k 0) e ∙ ap (λ i. get_or (paste d (0 * w) row w) i 0) (omega arith) ∙ paste_inside d (0 * w) row w k (omega (arith, S.short)) (omega arith) m)
 
   -- the copies so far, or as many bytes of them as there is room for, are copied behind themselves
@@ -92,10 +92,10 @@ module _ (p w n : ℕ) (S : Sizes p w n) (row : List ℕ) where
   }
     where
       back : (k : ℕ) → done ≤ k → k % w ≡ (k - done) % w
-      back k q = ap (λ x. x % w) (omega arith) ∙ add-cong-r w (k - done) done 0 (F.copies ∙ sym none_left) ∙ ap (λ x. x % w) (omega arith)
+      back k q = ap (λ x. x % w) (omega arith) ∙ add_cong_r w (k - done) done 0 (F.copies ∙ sym none_left) ∙ ap (λ x. x % w) (omega arith)
 
-  pub filled-all : (s : List ℕ) (done : ℕ) → n ≤ done → Filled w n row s done → s ≡ repeated p w row
-  filled-all s done h F = is-rows p w S.wide s (λ _ t. get_or row t 0) (F.long ∙ sym S.whole) (λ r t l m.
+  pub filled_all : (s : List ℕ) (done : ℕ) → n ≤ done → Filled w n row s done → s ≡ repeated p w row
+  filled_all s done h F = is_rows p w S.wide s (λ _ t. get_or row t 0) (F.long ∙ sym S.whole) (λ r t l m.
       F.same (r * w + t) (omega (arith, S.within r l)) ∙ ap (λ i. get_or row i 0) (mod-mul-add r w t m))
 
 -- the row that was cut from row r of a block has the width
@@ -104,47 +104,47 @@ length_row w r b row h e = ap length e ∙ length-between b (r * w) (r * w + w) 
 
 -- ---- a row added to every row
 module _ (p w n : ℕ) (S : Sizes p w n) where
-  long-block : (f : ℕ → ℕ → ℕ) → length (rows p w f) ≡ n
-  long-block f = length-rows p w S.wide f ∙ S.whole
+  long_block : (f : ℕ → ℕ → ℕ) → length (rows p w f) ≡ n
+  long_block f = length_rows p w S.wide f ∙ S.whole
 
-  repeated-row : (r : ℕ) (b row : List ℕ) → row ≡ between (r * w) (r * w + w) b → repeated p w row ≡ everywhere p w r b
-  repeated-row r b row e = rows_same p w S.wide (λ _ t. get_or row t 0) (λ _ t. cell w b r t) (λ _ t _ m.
+  repeated_row : (r : ℕ) (b row : List ℕ) → row ≡ between (r * w) (r * w + w) b → repeated p w row ≡ everywhere p w r b
+  repeated_row r b row e = rows_same p w S.wide (λ _ t. get_or row t 0) (λ _ t. cell w b r t) (λ _ t _ m.
       ap (λ (x : List ℕ). get_or x t 0) e ∙ get_or-between b (r * w) (r * w + w) t 0 (omega arith))
 
-  pub row-everywhere : (r : ℕ) (b row whole into out : List ℕ) → length into ≡ n → row ≡ between (r * w) (r * w + w) b → whole ≡ repeated p w row → out ≡ onto into whole → out ≡ into ⊕ everywhere p w r b
-  row-everywhere r b row whole into out li er ew eo =
-      let all : whole ≡ everywhere p w r b = ew ∙ repeated-row r b row er in
-      eo ∙ ap (onto into) all ∙ onto_same into (everywhere p w r b) (li ∙ sym (long-block (λ _ t. cell w b r t)))
+  pub row_everywhere : (r : ℕ) (b row whole into out : List ℕ) → length into ≡ n → row ≡ between (r * w) (r * w + w) b → whole ≡ repeated p w row → out ≡ onto into whole → out ≡ into ⊕ everywhere p w r b
+  row_everywhere r b row whole into out li er ew eo =
+      let all : whole ≡ everywhere p w r b = ew ∙ repeated_row r b row er in
+      eo ∙ ap (onto into) all ∙ onto_same into (everywhere p w r b) (li ∙ sym (long_block (λ _ t. cell w b r t)))
 
   -- row p − 1 adds nothing
-  pub no-row-everywhere : (r : ℕ) (b into : List ℕ) → length b ≡ n → length into ≡ n → p - 1 ≤ r → into ≡ into ⊕ everywhere p w r b
-  no-row-everywhere r b into lb li h = is_add_rows p w n S into into (λ _ t. cell w b r t) li li (λ k t _ _.
+  pub no_row_everywhere : (r : ℕ) (b into : List ℕ) → length b ≡ n → length into ≡ n → p - 1 ≤ r → into ≡ into ⊕ everywhere p w r b
+  no_row_everywhere r b into lb li h = is_add_rows p w n S into into (λ _ t. cell w b r t) li li (λ k t _ _.
       sym (ap (bit_xor (cell w into k t)) (get_or_past b (r * w + t) 0 (omega (arith, S.whole, S.top r h))) ∙ xor_zero_r (cell w into k t)))
 
 -- ---- the ⊕ of the first rows
 module _ (w : ℕ) (b : List ℕ) where
-  pub length-sums : (n : ℕ) → length (row_sums w b n) ≡ w
+  pub length_sums : (n : ℕ) → length (row_sums w b n) ≡ w
   unfolding row_sums
-  length-sums n = length-map-range_with_len (sum_at w b n) 0 w
+  length_sums n = length-map-range_with_len (sum_at w b n) 0 w
 
-  pub getD-sums : (n t : ℕ) → t < w → get_or (row_sums w b n) t 0 ≡ sum_at w b n t
+  pub get_or_sums : (n t : ℕ) → t < w → get_or (row_sums w b n) t 0 ≡ sum_at w b n t
   unfolding row_sums
-  getD-sums n t h = get_or-map-range_with_len (sum_at w b n) 0 w t t 0 h (omega arith)
+  get_or_sums n t h = get_or-map-range_with_len (sum_at w b n) 0 w t t 0 h (omega arith)
 
-  sums-past : (n t : ℕ) → w ≤ t → get_or (row_sums w b n) t 0 ≡ 0
-  sums-past n t h = get_or_past (row_sums w b n) t 0 (omega (arith, length-sums n))
+  sums_past : (n t : ℕ) → w ≤ t → get_or (row_sums w b n) t 0 ≡ 0
+  sums_past n t h = get_or_past (row_sums w b n) t 0 (omega (arith, length_sums n))
 
   pub sums_none : (a : List ℕ) → a ≡ onto a (row_sums w b 0)
   sums_none a = is_onto a a (row_sums w b 0) refl (λ i _. sym (ap (bit_xor (get_or a i 0)) (none i) ∙ xor_zero_r (get_or a i 0)))
     where
       none : (i : ℕ) → get_or (row_sums w b 0) i 0 ≡ 0
       none i = elim (cases_lt i w) [
-        | inl l ↦ getD-sums 0 i l
-        | inr l ↦ sums-past 0 i l
+        | inl l ↦ get_or_sums 0 i l
+        | inr l ↦ sums_past 0 i l
       ]
 
-  pub sums-more : (r : ℕ) (a s row out : List ℕ) → r * w + w ≤ length b → s ≡ onto a (row_sums w b r) → row ≡ between (r * w) (r * w + w) b → out ≡ onto s row → out ≡ onto a (row_sums w b (r + 1))
-  sums-more r a s row out h es er eo = is_onto out a (row_sums w b (r + 1)) (ap length eo ∙ length_onto s row ∙ ls) (λ i l.
+  pub sums_more : (r : ℕ) (a s row out : List ℕ) → r * w + w ≤ length b → s ≡ onto a (row_sums w b r) → row ≡ between (r * w) (r * w + w) b → out ≡ onto s row → out ≡ onto a (row_sums w b (r + 1))
+  sums_more r a s row out h es er eo = is_onto out a (row_sums w b (r + 1)) (ap length eo ∙ length_onto s row ∙ ls) (λ i l.
       ap (λ (x : List ℕ). get_or x i 0) eo ∙ get_or_onto s row i (omega (arith, ls))
       ∙ ap (λ x. bit_xor x (get_or row i 0)) (ap (λ (x : List ℕ). get_or x i 0) es ∙ get_or_onto a (row_sums w b r) i l)
       ∙ xor_assoc (get_or a i 0) (get_or (row_sums w b r) i 0) (get_or row i 0)
@@ -159,13 +159,13 @@ module _ (w : ℕ) (b : List ℕ) where
       one_more : (i : ℕ) → bit_xor (get_or (row_sums w b r) i 0) (get_or row i 0) ≡ get_or (row_sums w b (r + 1)) i 0
       one_more i = elim (cases_lt i w) [
         | inl l ↦ rw (add-one r) (
-            ap (λ x. bit_xor x (get_or row i 0)) (getD-sums r i l)
+            ap (λ x. bit_xor x (get_or row i 0)) (get_or_sums r i l)
             ∙ ap (bit_xor (sum_at w b r i)) (ap (λ (x : List ℕ). get_or x i 0) er ∙ get_or-between b (r * w) (r * w + w) i 0 (omega arith))
-            ∙ sym (getD-sums (suc r) i l))
+            ∙ sym (get_or_sums (suc r) i l))
         | inr l ↦
-            let x : get_or (row_sums w b r) i 0 ≡ 0 = sums-past r i l in
+            let x : get_or (row_sums w b r) i 0 ≡ 0 = sums_past r i l in
             let y : get_or row i 0 ≡ 0 = get_or_past row i 0 (omega (arith, lr)) in
-            let z : get_or (row_sums w b (r + 1)) i 0 ≡ 0 = sums-past (r + 1) i l in
+            let z : get_or (row_sums w b (r + 1)) i 0 ≡ 0 = sums_past (r + 1) i l in
             rw (x, y, z)
       ]
 
@@ -175,15 +175,15 @@ pub sum_row : (p w n : ℕ) → Sizes p w n → (b z sum row : List ℕ) → len
 sum_row p w n S b z sum row lz hz es er t m =
     ap (λ (x : List ℕ). get_or x t 0) er ∙ get_or-between sum (0 * w) (0 * w + w) t 0 (omega arith) ∙ ap (λ k. get_or sum k 0) (omega arith)
     ∙ ap (λ (x : List ℕ). get_or x t 0) es ∙ get_or_onto z (row_sums w b (p - 1)) t (omega (arith, S.short))
-    ∙ ap (λ x. bit_xor x (get_or (row_sums w b (p - 1)) t 0)) (hz t) ∙ rw (getD-sums w b (p - 1) t m)
+    ∙ ap (λ x. bit_xor x (get_or (row_sums w b (p - 1)) t 0)) (hz t) ∙ rw (get_or_sums w b (p - 1) t m)
 
 -- that ⊕ added to every row
 pub sum_everywhere : (p w n : ℕ) → Sizes p w n → (b z sum row whole out : List ℕ) → length b ≡ n → length z ≡ n → ((k : ℕ) → get_or z k 0 ≡ 0) →
     sum ≡ onto z (row_sums w b (p - 1)) → row ≡ between (0 * w) (0 * w + w) sum → whole ≡ repeated p w row → out ≡ onto b whole → out ≡ unadjusted_block p w b
 sum_everywhere p w n S b z sum row whole out lb lz hz es er ew eo =
-    is-rows p w S.wide out (λ r t. unadjusted p (λ k. cell w b k t) r) (ap length eo ∙ length_onto b whole ∙ lb ∙ sym S.whole) (λ r t l m.
+    is_rows p w S.wide out (λ r t. unadjusted p (λ k. cell w b k t) r) (ap length eo ∙ length_onto b whole ∙ lb ∙ sym S.whole) (λ r t l m.
     ap (λ (x : List ℕ). get_or x (r * w + t) 0) eo ∙ get_or_onto b whole (r * w + t) (omega (arith, S.within r l))
-    ∙ ap (bit_xor (cell w b r t)) (ap (λ (x : List ℕ). cell w x r t) ew ∙ cell-rows p w S.wide (λ _ t. get_or row t 0) r t l m ∙ sum_row p w n S b z sum row lz hz es er t m))
+    ∙ ap (bit_xor (cell w b r t)) (ap (λ (x : List ℕ). cell w x r t) ew ∙ cell_rows p w S.wide (λ _ t. get_or row t 0) r t l m ∙ sum_row p w n S b z sum row lz hz es er t m))
 
 -- that ⊕ written behind the block as row p − 1
 pub closes : (p w n m : ℕ) → Sizes p w n → (b z sum row zz first given : List ℕ) → length b ≡ n → length z ≡ n → ((k : ℕ) → get_or z k 0 ≡ 0) → length zz ≡ m → ((k : ℕ) → get_or zz k 0 ≡ 0) → n + w ≤ m →

@@ -12,7 +12,7 @@ use Rattle.std.proofs.lemmas.Bool.{cases_lt}
 use Rattle.code.specs.Blocks.{◌⊕◌, onto}
 use Rattle.code.proofs.Blocks.{length_add, get_or_add, length_onto, get_or_onto}
 use Rattle.prime.specs.Rows.{cell, rows, shifted}
-use Rattle.prime.proofs.Grids.{length-rows, cell-rows, same-cells}
+use Rattle.prime.proofs.Grids.{length_rows, cell_rows, same_cells}
 use Rattle.prime.proofs.Sizes.{Sizes}
 
 -- ---- a part of a list that was written
@@ -35,11 +35,11 @@ get_or_to_end xs i n k h = ap (λ (ys : List ℕ). get_or ys k 0) (between_to_en
 pub is_add_rows : (p w n : ℕ) → Sizes p w n → (out into : List ℕ) (f : ℕ → ℕ → ℕ) → length out ≡ n → length into ≡ n →
     ((r t : ℕ) → r < p - 1 → t < w → cell w out r t ≡ bit_xor (cell w into r t) (f r t)) → out ≡ into ⊕ rows p w f
 is_add_rows p w n S out into f lo li h =
-    same-cells p w S.wide out (into ⊕ rows p w f) (lo ∙ sym S.whole) (length_add ((p - 1) * w) into (rows p w f) (li ∙ sym S.whole) lf) (λ r t l m.
-    h r t l m ∙ sym (get_or_add into (rows p w f) (li ∙ sym S.whole ∙ sym lf) (r * w + t) ∙ ap (bit_xor (cell w into r t)) (cell-rows p w S.wide f r t l m)))
+    same_cells p w S.wide out (into ⊕ rows p w f) (lo ∙ sym S.whole) (length_add ((p - 1) * w) into (rows p w f) (li ∙ sym S.whole) lf) (λ r t l m.
+    h r t l m ∙ sym (get_or_add into (rows p w f) (li ∙ sym S.whole ∙ sym lf) (r * w + t) ∙ ap (bit_xor (cell w into r t)) (cell_rows p w S.wide f r t l m)))
   where
     lf : length (rows p w f) ≡ (p - 1) * w
-    lf = length-rows p w S.wide f
+    lf = length_rows p w S.wide f
 
 -- Two runs make a shift by s: all from row s on is added at the start, and the s − 1 rows from the first on are added at the end.
 pub two_runs : (p w n : ℕ) → Sizes p w n → (s : ℕ) → s < p → (b into first tail : List ℕ) (rest : ℕ) → length b ≡ n → length into ≡ n → rest ≡ (s - 1) * w →
@@ -86,7 +86,7 @@ two_runs p w n S s hs b into first tail rest lb li hr ef et = is_add_rows p w n 
           let split : (r + (s - 1)) * w ≡ (r + s - p) * w + (p - 1) * w = ap (λ k. k * w) (omega arith) ∙ add-mul (r + s - p) (p - 1) w in
           let place : r * w + t ≡ n - rest + ((r + s - p) * w + t) = omega (arith, fits, split, add-mul r (s - 1) w, S.whole, hr) in
           let inside : (r + s - p) * w + t < rest = omega (arith, mul-add-lt (r + s - p) w t (s - 1) (omega arith) ht, mul_comm w (s - 1), hr) in
-          let past : get_or b (s * w + (r * w + t)) 0 ≡ 0 = get_or_past b (s * w + (r * w + t)) 0 (omega (arith, split, add-mul r (s - 1) w, add-mul (s - 1) 1 w, S.whole, ap (λ k. k * w) (suc-pred s (omega arith)))) in
+          let past : get_or b (s * w + (r * w + t)) 0 ≡ 0 = get_or_past b (s * w + (r * w + t)) 0 (omega (arith, split, add-mul r (s - 1) w, add-mul (s - 1) 1 w, S.whole, ap (λ k. k * w) (suc_pred s (omega arith)))) in
           ap (λ k. get_or (put_mid (n - rest) (n - (n - rest)) first tail) k 0) place
           ∙ putMid_inside (n - rest) (n - (n - rest)) first tail ((r + s - p) * w + t) (omega (arith, lf, fits)) lt (omega (arith, fits))
           ∙ at_tail ((r + s - p) * w + t) inside
@@ -94,5 +94,5 @@ two_runs p w n S s hs b into first tail rest lb li hr ef et = is_add_rows p w n 
           ∙ ap (bit_xor (cell w into r t)) (ap (λ k. cell w b k t) (sym row))
     ]
       where
-        suc-pred : (s : ℕ) → 0 < s → s ≡ s - 1 + 1
-        suc-pred s h = omega arith
+        suc_pred : (s : ℕ) → 0 < s → s ≡ s - 1 + 1
+        suc_pred s h = omega arith

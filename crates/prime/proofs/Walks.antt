@@ -12,9 +12,9 @@ use Rattle.prime.specs.Primes.{Prime}
 use Rattle.prime.specs.Rows.{xors, cell, rows}
 use Rattle.prime.specs.Diagonals.{walk, steps, closed, solved, inverse_below, gap, unpaired_block}
 use Rattle.prime.proofs.Mods.{cancel}
-use Rattle.prime.proofs.Shifts.{walk_more, walk_steps, steps-walk, turns}
-use Rattle.prime.proofs.Laws.{inverse-found, gap-some, gap-low}
-use Rattle.prime.proofs.Grids.{is-rows}
+use Rattle.prime.proofs.Shifts.{walk_more, walk_steps, steps_walk, turns}
+use Rattle.prime.proofs.Laws.{inverse_found, gap_some, gap_low}
+use Rattle.prime.proofs.Grids.{is_rows}
 use Rattle.prime.proofs.Sizes.{Sizes}
 use Rattle.prime.proofs.Repeats.{Closes, paste_inside, other_row, length_row}
 
@@ -47,17 +47,17 @@ low_r {p = p} {u = u} {d = d} {m = m} W = rw W.at_r (mod-lt (p - 1 + u * (p - 1)
 
 module _ {p d : ℕ} (D : Stride p d) where
   inv : (d * inverse_below p d p) % p ≡ 1
-  inv = inverse-found p D.prime d D.some D.low
+  inv = inverse_found p D.prime d D.some D.low
 
   start : walk p (p - 1) d 0 ≡ p - 1
   start = ap (λ x. x % p) (omega arith) ∙ mod-eq_of_lt (omega (arith, D.prime.0))
 
   -- the walk does not come back to the row of zeros before it is done
-  walk-below : (m : ℕ) → m < p - 1 → walk p (p - 1) d (suc m) < p - 1
-  walk-below m l = elim (cases_eq (walk p (p - 1) d (suc m)) (p - 1)) [
+  walk_below : (m : ℕ) → m < p - 1 → walk p (p - 1) d (suc m) < p - 1
+  walk_below m l = elim (cases_eq (walk p (p - 1) d (suc m)) (p - 1)) [
     | inl q ↦
-        let z : suc m ≡ 0 = sym (steps-walk p D.prime.0 d (inverse_below p d p) inv (p - 1) (suc m) (omega arith)) ∙ ap (steps p (p - 1) (inverse_below p d p)) (q ∙ sym start)
-        ∙ steps-walk p D.prime.0 d (inverse_below p d p) inv (p - 1) 0 (omega arith) in
+        let z : suc m ≡ 0 = sym (steps_walk p D.prime.0 d (inverse_below p d p) inv (p - 1) (suc m) (omega arith)) ∙ ap (steps p (p - 1) (inverse_below p d p)) (q ∙ sym start)
+        ∙ steps_walk p D.prime.0 d (inverse_below p d p) inv (p - 1) 0 (omega arith) in
         absurd (omega arith)
     | inr q ↦ omega (arith, mod-lt (p - 1 + suc m * d) {m = p} (omega arith))
   ]
@@ -79,12 +79,12 @@ module _ {p w n u d : ℕ} (S : Sizes p w n) where
 
   module _ {b out sum : List ℕ} {m k r : ℕ} (W : Walked p w n u d b out sum m k r) where
     module _ {k' : ℕ} (hm : m < p - 1) (hk : k' ≡ (k + d) % p) where
-      next-k : k' ≡ walk p (p - 1) d (suc m)
-      next-k = hk ∙ ap (λ x. (x + d) % p) W.at_k ∙ sym (walk_more p W.stride.prime.0 (p - 1) d m)
+      next_k : k' ≡ walk p (p - 1) d (suc m)
+      next_k = hk ∙ ap (λ x. (x + d) % p) W.at_k ∙ sym (walk_more p W.stride.prime.0 (p - 1) d m)
 
       -- the next row to write is one of the block
-      pub next-within : k' < p - 1
-      next-within = rw next-k (walk-below W.stride m hm)
+      pub next_within : k' < p - 1
+      next_within = rw next_k (walk_below W.stride m hm)
 
       pub walked_more : (given row sum' : List ℕ) {first out' : List ℕ} {r' : ℕ} → Closes p w b given → r * w + w ≤ length given → r' ≡ (r + d) % p →
           row ≡ between (r * w) (r * w + w) given → sum' ≡ onto sum row → first ≡ between (0 * w) (0 * w + w) sum' → out' ≡ paste out (k' * w) first w →
@@ -92,13 +92,13 @@ module _ {p w n u d : ℕ} (S : Sizes p w n) where
       unfolding solved
       walked_more given row sum' {first = first} {out' = out'} G hg hr er es ef eo = rw (add-one m) (record {
         stride = W.stride;
-        at_k = next-k;
+        at_k = next_k;
         at_r = hr ∙ ap (λ x. (x + d) % p) W.at_r ∙ sym (walk_more p W.stride.prime.0 (p - 1 + u * (p - 1)) d m);
         room = room';
         so_far = added;
         long = ap length eo ∙ length-paste out (k' * w) first w (omega (arith, fits)) (omega (arith, lf)) ∙ W.long;
         solves = λ i t l ht h. elim (cases_eq i k') [
-          | inl q ↦ rw q (written t ht ∙ added t ht ∙ sym (solved-here t))
+          | inl q ↦ rw q (written t ht ∙ added t ht ∙ sym (solved_here t))
           | inr q ↦ ap (λ (x : List ℕ). cell w x i t) eo ∙ other_row w out k' first i t fits (omega (arith, lf)) ht q ∙ W.solves i t l ht (earlier i q l h)
         ];
       })
@@ -110,7 +110,7 @@ module _ {p w n u d : ℕ} (S : Sizes p w n) where
           lf = length_row w 0 sum' first (omega (arith, room', S.short)) ef
 
           fits : k' * w + w ≤ length out
-          fits = omega (arith, S.within k' next-within, W.long)
+          fits = omega (arith, S.within k' next_within, W.long)
 
           added : (t : ℕ) → t < w → get_or sum' t 0 ≡ along p w u d b t (suc m)
           added t ht =
@@ -124,19 +124,19 @@ module _ {p w n u d : ℕ} (S : Sizes p w n) where
               ∙ ap (λ (x : List ℕ). get_or x t 0) ef ∙ get_or-between sum' (0 * w) (0 * w + w) t 0 (omega arith) ∙ ap (λ i. get_or sum' i 0) (omega arith)
 
           here : steps p (p - 1) (inverse_below p d p) k' ≡ suc m
-          here = ap (steps p (p - 1) (inverse_below p d p)) next-k ∙ steps-walk p W.stride.prime.0 d (inverse_below p d p) (inv W.stride) (p - 1) (suc m) (omega arith)
+          here = ap (steps p (p - 1) (inverse_below p d p)) next_k ∙ steps_walk p W.stride.prime.0 d (inverse_below p d p) (inv W.stride) (p - 1) (suc m) (omega arith)
 
-          solved-here : (t : ℕ) → solved p u d (inverse_below p d p) (λ r. cell w b r t) k' ≡ along p w u d b t (suc m)
-          solved-here t = ap (along p w u d b t) here
+          solved_here : (t : ℕ) → solved p u d (inverse_below p d p) (λ r. cell w b r t) k' ≡ along p w u d b t (suc m)
+          solved_here t = ap (along p w u d b t) here
 
           earlier : (i : ℕ) → (i ≡ k' → ⊥) → i < p - 1 → steps p (p - 1) (inverse_below p d p) i ≤ suc m → steps p (p - 1) (inverse_below p d p) i ≤ m
           earlier i q l h = elim (cases_eq (steps p (p - 1) (inverse_below p d p) i) (suc m)) [
-            | inl z ↦ absurd (q (sym (walk_steps p W.stride.prime.0 d (inverse_below p d p) (inv W.stride) (p - 1) i (omega arith)) ∙ ap (walk p (p - 1) d) z ∙ sym next-k))
+            | inl z ↦ absurd (q (sym (walk_steps p W.stride.prime.0 d (inverse_below p d p) (inv W.stride) (p - 1) i (omega arith)) ∙ ap (walk p (p - 1) d) z ∙ sym next_k))
             | inr z ↦ omega arith
           ]
 
   walked_all : {b out sum : List ℕ} {m k r : ℕ} → p - 1 ≤ m → Walked p w n u d b out sum m k r → out ≡ rows p w (λ k t. solved p u d (inverse_below p d p) (λ r. cell w b r t) k)
-  walked_all {b = b} {out = out} h W = is-rows p w S.wide out (λ k t. solved p u d (inverse_below p d p) (λ r. cell w b r t) k) (W.long ∙ sym S.whole) (λ i t l ht.
+  walked_all {b = b} {out = out} h W = is_rows p w S.wide out (λ k t. solved p u d (inverse_below p d p) (λ r. cell w b r t) k) (W.long ∙ sym S.whole) (λ i t l ht.
       W.solves i t l ht (omega (arith, mod-lt ((i + (p - 1) * (p - 1)) * inverse_below p d p) {m = p} (omega arith))))
 
 -- two ways to step back by u
@@ -156,9 +156,9 @@ module _ (p : ℕ) (pr : Prime p) (u v d : ℕ) (hu : u ≤ p) (ne : u % p ≡ v
   pub stride : Stride p d
   stride = record {
     prime = pr;
-    some = rw step_is (gap-some p pr u v ne);
-    low = rw step_is (gap-low p pr u v ne);
+    some = rw step_is (gap_some p pr u v ne);
+    low = rw step_is (gap_low p pr u v ne);
   }
 
-  pub walk-solves : {w n : ℕ} {b out sum : List ℕ} {m k r : ℕ} → Sizes p w n → p - 1 ≤ m → Walked p w n u d b out sum m k r → out ≡ unpaired_block p w u v b
-  walk-solves {w = w} {b = b} S h W = walked_all S h W ∙ ap (λ (x : ℕ). rows p w (λ k t. solved p u x (inverse_below p x p) (λ r. cell w b r t) k)) step_is
+  pub walk_solves : {w n : ℕ} {b out sum : List ℕ} {m k r : ℕ} → Sizes p w n → p - 1 ≤ m → Walked p w n u d b out sum m k r → out ≡ unpaired_block p w u v b
+  walk_solves {w = w} {b = b} S h W = walked_all S h W ∙ ap (λ (x : ℕ). rows p w (λ k t. solved p u x (inverse_below p x p) (λ r. cell w b r t) k)) step_is

@@ -37,11 +37,11 @@ module _ (V W : Shape) (σ τ ρ : State) (i n : ℕ) (same : W ≡ V) (g : Goin
   pub going_more : (f : ℕ) → f < V.stripes → Goes_on W τ (event (step i) (number f)) ρ → GoingOn V σ i (n + 1) ρ
   going_more f l h = record { log = g.log ++ event (step i) (number f); stepped = more n f g.log g.stepped l; goes = further (number f) h }
 
-  pub steps-ended : (y f : ℕ) → n < y → V.stripes ≤ f → Goes_on W τ (event (step i) (number f)) ρ → StepsOn V σ i y None ρ
-  steps-ended y f l k h = record { log = g.log ++ event (step i) (number f); stopped = ended n f g.log l g.stepped k; goes = further (number f) h }
+  pub steps_ended : (y f : ℕ) → n < y → V.stripes ≤ f → Goes_on W τ (event (step i) (number f)) ρ → StepsOn V σ i y None ρ
+  steps_ended y f l k h = record { log = g.log ++ event (step i) (number f); stopped = ended n f g.log l g.stepped k; goes = further (number f) h }
 
-  pub steps-halted : (y : ℕ) (t : Told) → n < y → Goes_on W τ (event (step i) (refused t)) ρ → StepsOn V σ i y (Some t) ρ
-  steps-halted y t l h = record { log = g.log ++ event (step i) (refused t); stopped = halted n t g.log l g.stepped; goes = further (refused t) h }
+  pub steps_halted : (y : ℕ) (t : Told) → n < y → Goes_on W τ (event (step i) (refused t)) ρ → StepsOn V σ i y (Some t) ρ
+  steps_halted y t l h = record { log = g.log ++ event (step i) (refused t); stopped = halted n t g.log l g.stepped; goes = further (refused t) h }
 
 pub steps_spent : (V : Shape) (σ τ : State) (i n y : ℕ) → n ≡ y → GoingOn V σ i n τ → StepsOn V σ i y None τ
 steps_spent V σ τ i n y e g = record {

@@ -7,8 +7,8 @@ use Rattle.member.specs.Meaning.{Meaning, Sound, checked}
 use Rattle.member.specs.Changes.{Written, Ticked, Renewed, Lawful}
 use Rattle.member.specs.Outcomes.{Outcome, checked_written}
 use Rattle.remap.specs.Places.{Table, place, used, left, unmoved}
-use Rattle.remap.specs.Remapped.{remap_at, remapped, own_count, Layer, layer, LayerSound, layer-meaning, layer-seen, tries, layer-wrote, layer_ticked, layer_renewed}
-use Rattle.remap.specs.Tries.{block_in, inside, ends, tries-sound}
+use Rattle.remap.specs.Remapped.{remap_at, remapped, own_count, Layer, layer, LayerSound, layer_meaning, layer_seen, tries, layer_wrote, layer_ticked, layer_renewed}
+use Rattle.remap.specs.Tries.{block_in, inside, ends, tries_sound}
 
 none≢block : (v : List ℕ) → None ≢ Some v
 none≢block v e = let z : ◌≡◌ {A = ℕ} 0 1 = cc in omega arith
@@ -45,44 +45,44 @@ remapped_renewed t u m n same h = record {
 module _ {S : Type 0} (sound : S → Type 0) (mean : S → Meaning) (see : S → ℕ → ℕ → S) (write : S → ℕ → List ℕ → S) (tick renew : S → S)
     (law : Lawful sound mean see write tick renew) where
   -- what holds of a layer that a call reaches, and of the layer as it was, holds after the call
-  checked-holds : (P : Layer S → Type 0) (m : Meaning) (b n : ℕ) (new old : Layer S) → (n ≡ 512 → b < m.count → P new) → P old
+  checked_holds : (P : Layer S → Type 0) (m : Meaning) (b n : ℕ) (new old : Layer S) → (n ≡ 512 → b < m.count → P new) → P old
       → P (checked m b n new old)
-  checked-holds P m b n new old h k =
+  checked_holds P m b n new old h k =
       cond_both (n == 512) (cond (nat_lt b m.count) new old) old P
       (λ e. cond_both (nat_lt b m.count) new old P (λ l. h (eqb-true n 512 e) (ltb-true b m.count l)) (λ l. k)) (λ e. k)
 
-  pub layer-writes : (x : Layer S) (b : ℕ) (v : List ℕ) → LayerSound sound x
-      → Written (layer-meaning mean x) b v (layer-meaning mean (layer-wrote mean write x b v))
-  layer-writes x b v ok =
+  pub layer_writes : (x : Layer S) (b : ℕ) (v : List ℕ) → LayerSound sound x
+      → Written (layer_meaning mean x) b v (layer_meaning mean (layer_wrote mean write x b v))
+  layer_writes x b v ok =
       let t = x.table in
       let m = mean x.below in
       let first = own_count t m in
       let y = tries mean write first b v (left t) x.below t in
-      checked_written (layer-meaning mean) x y b v
+      checked_written (layer_meaning mean) x y b v
       (λ sized there.
       let e = ends sound mean see write tick renew law first b v sized there (left t) x.below t ok.below (omega (arith, ok.within)) (omega arith) in
       let same : first ≡ own_count y.table (mean y.below) = omega (arith, e.count, e.spares) in
-      subst (λ k. Outcome (layer-meaning mean x) b v (remap_at y.table k (mean y.below))) same e.outcome)
+      subst (λ k. Outcome (layer_meaning mean x) b v (remap_at y.table k (mean y.below))) same e.outcome)
 
-  pub layer-lawful : Lawful (LayerSound sound) (layer-meaning mean) (layer-seen mean see) (layer-wrote mean write) (layer_ticked tick) (layer_renewed renew)
-  layer-lawful = record {
+  pub layer_lawful : Lawful (LayerSound sound) (layer_meaning mean) (layer_seen mean see) (layer_wrote mean write) (layer_ticked tick) (layer_renewed renew)
+  layer_lawful = record {
     means = λ x ok. remapped_sound x.table (mean x.below) (law.means x.below ok.below);
     sees = λ x b n ok.
-        checked-holds (λ y. layer-meaning mean y ≡ layer-meaning mean x) (layer-meaning mean x) b n
-        (layer (see x.below (place x.table (layer-meaning mean x).count b) n) x.table) x
-        (λ e l. ap (remapped x.table) (law.sees x.below (place x.table (layer-meaning mean x).count b) n ok.below)) refl;
-    writes = layer-writes;
+        checked_holds (λ y. layer_meaning mean y ≡ layer_meaning mean x) (layer_meaning mean x) b n
+        (layer (see x.below (place x.table (layer_meaning mean x).count b) n) x.table) x
+        (λ e l. ap (remapped x.table) (law.sees x.below (place x.table (layer_meaning mean x).count b) n ok.below)) refl;
+    writes = layer_writes;
     ticks = λ x ok. remapped_ticked x.table (mean x.below) (mean (tick x.below)) ok.within (law.ticks x.below ok.below);
     renews = λ x ok.
         remapped_renewed x.table (unmoved x.table.spares) (mean x.below) (mean (renew x.below)) refl (law.renews x.below ok.below);
     seen_sound = λ x b n ok.
-        checked-holds (LayerSound sound) (layer-meaning mean x) b n
-        (layer (see x.below (place x.table (layer-meaning mean x).count b) n) x.table) x
-        (λ e l. record { below = law.seen_sound x.below (place x.table (layer-meaning mean x).count b) n ok.below; within = ok.within }) ok;
+        checked_holds (LayerSound sound) (layer_meaning mean x) b n
+        (layer (see x.below (place x.table (layer_meaning mean x).count b) n) x.table) x
+        (λ e l. record { below = law.seen_sound x.below (place x.table (layer_meaning mean x).count b) n ok.below; within = ok.within }) ok;
     wrote_sound = λ x b v ok low.
-        checked-holds (LayerSound sound) (layer-meaning mean x) b (length v)
-        (tries mean write (layer-meaning mean x).count b v (left x.table) x.below x.table) x
-        (λ e l. tries-sound sound mean see write tick renew law (layer-meaning mean x).count b v e l low (left x.table) x.below x.table ok.below (omega (arith, ok.within)))
+        checked_holds (LayerSound sound) (layer_meaning mean x) b (length v)
+        (tries mean write (layer_meaning mean x).count b v (left x.table) x.below x.table) x
+        (λ e l. tries_sound sound mean see write tick renew law (layer_meaning mean x).count b v e l low (left x.table) x.below x.table ok.below (omega (arith, ok.within)))
         ok;
     ticked_sound = λ x ok. record { below = law.ticked_sound x.below ok.below; within = ok.within };
     renewed_sound = λ x ok. record { below = law.renewed_sound x.below ok.below; within = omega arith };

@@ -50,12 +50,12 @@ clipped [] = []
 clipped (x ∷ xs) = min 255 x ∷ clipped xs
 
 module _ {S : Type 0} (mean : S → Meaning) where
-  abbrev pub layer-meaning : Layer S → Meaning
-  layer-meaning x = remapped x.table (mean x.below)
+  abbrev pub layer_meaning : Layer S → Meaning
+  layer_meaning x = remapped x.table (mean x.below)
 
   -- a read goes below, to the block's place
-  abbrev pub layer-seen : (S → ℕ → ℕ → S) → Layer S → ℕ → ℕ → Layer S
-  layer-seen see x b n = checked (layer-meaning x) b n (layer (see x.below (place x.table (layer-meaning x).count b) n) x.table) x
+  abbrev pub layer_seen : (S → ℕ → ℕ → S) → Layer S → ℕ → ℕ → Layer S
+  layer_seen see x b n = checked (layer_meaning x) b n (layer (see x.below (place x.table (layer_meaning x).count b) n) x.table) x
 
   module _ (write : S → ℕ → List ℕ → S) where
     -- A write of v to block b at its place. While that is refused with 3, and at most n times, the block is moved to the lowest
@@ -66,8 +66,8 @@ module _ {S : Type 0} (mean : S → Meaning) where
         cond (refused_with 3 (write_refusal (mean s) (place t first b) (length v)))
         (tries first b v n (write s (place t first b) (clipped v)) (moved_on t b)) (layer (write s (place t first b) v) t)
 
-    abbrev pub layer-wrote : Layer S → ℕ → List ℕ → Layer S
-    layer-wrote x b v = checked (layer-meaning x) b (length v) (tries (layer-meaning x).count b v (left x.table) x.below x.table) x
+    abbrev pub layer_wrote : Layer S → ℕ → List ℕ → Layer S
+    layer_wrote x b v = checked (layer_meaning x) b (length v) (tries (layer_meaning x).count b v (left x.table) x.below x.table) x
 
 -- a tick goes below
 abbrev pub layer_ticked : {S : Type 0} → (S → S) → Layer S → Layer S

@@ -71,12 +71,12 @@ apart_of xs first b k o p hb hk ne (spare_place i it e w) (spare_place j jt f z)
     let same : i ≡ j = omega arith in ne (sym w ∙ ap (owner xs) same ∙ z)
 
 module _ (t : Table) (first : ℕ) where
-  pub place-below : (b : ℕ) → b < first → place t first b < first + used t
-  place-below b h = below_of t.moves first b (given t.moves b) h (stands t.moves first b)
+  pub place_below : (b : ℕ) → b < first → place t first b < first + used t
+  place_below b h = below_of t.moves first b (given t.moves b) h (stands t.moves first b)
 
   -- two blocks stand at two places
-  pub place-apart : (b k : ℕ) → b < first → k < first → (k ≢ b) → place t first k ≢ place t first b
-  place-apart b k hb hk ne =
+  pub place_apart : (b k : ℕ) → b < first → k < first → (k ≢ b) → place t first k ≢ place t first b
+  place_apart b k hb hk ne =
       apart_of t.moves first b k (given t.moves k) (given t.moves b) hb hk ne (stands t.moves first k) (stands t.moves first b)
 
   -- a block that is moved stands at the new spare, and the others stay

@@ -9,10 +9,10 @@ use Rattle.member.specs.declared.Cause.TheVariants.{Gone, Unwritable}
 use Rattle.member.specs.Faults.{Origin, raised, above, refused_with}
 use Rattle.member.specs.Meaning.{Meaning, own, write_refusal, put_refusal}
 use Rattle.member.specs.Changes.{Level, Kept, Taken, Spoiled, Lawful}
-use Rattle.member.specs.Outcomes.{Outcome, gone_way, taken_way, spoiled_way, outcome, good-write}
+use Rattle.member.specs.Outcomes.{Outcome, gone_way, taken_way, spoiled_way, outcome, good_write}
 use Rattle.remap.specs.Places.{Table, place, used, left, moved_on}
 use Rattle.remap.specs.Remapped.{any_from, remap_at, Layer, layer, LayerSound, clipped, tries}
-use Rattle.remap.specs.Tables.{place-below, place-apart, moved_here, moved_other}
+use Rattle.remap.specs.Tables.{place_below, place_apart, moved_here, moved_other}
 
 -- ---- whether one of several blocks is writable
 pub any_same : (v w : ℕ → Bool) (p n : ℕ) → ((j : ℕ) → j < p + n → v j ≡ w j) → any_from v p n ≡ any_from w p n
@@ -32,7 +32,7 @@ module _ (t : Table) (first : ℕ) (m : Meaning) where
   block_in b lt = cond-true _ _ _ (lt-ltb b first lt)
 
   pub inside : used t ≤ t.spares → first + t.spares ≤ m.count → (b : ℕ) → b < first → place t first b < m.count
-  inside within room b lt = let h = place-below t first b lt in omega arith
+  inside within room b lt = let h = place_below t first b lt in omega arith
 
 -- ---- block k is kept where its place below is
 kept_in : (t : Table) (first : ℕ) (m n : Meaning) (k : ℕ) → k < first → n.height ≡ m.height → Kept m n (place t first k)
@@ -49,9 +49,9 @@ module _ (t : Table) (first : ℕ) (m n : Meaning) (b : ℕ) (within : used t �
   down : (k : ℕ) → k < first → place t first k < m.count
   down k lt = inside t first m within room k lt
 
-  others-in : n.height ≡ m.height → ((k : ℕ) → k < m.count → (k ≢ place t first b) → Kept m n k)
+  others_in : n.height ≡ m.height → ((k : ℕ) → k < m.count → (k ≢ place t first b) → Kept m n k)
       → (k : ℕ) → k < first → (k ≢ b) → Kept (remap_at t first m) (remap_at t first n) k
-  others-in high h k lt ne = kept_in t first m n k lt high (h (place t first k) (down k lt) (place-apart t first b k hb lt ne))
+  others_in high h k lt ne = kept_in t first m n k lt high (h (place t first k) (down k lt) (place_apart t first b k hb lt ne))
 
   -- accepted below, accepted by the layer
   taken_in : (v : List ℕ) → Taken m (place t first b) v n → Taken (remap_at t first m) b v (remap_at t first n)
@@ -59,7 +59,7 @@ module _ (t : Table) (first : ℕ) (m n : Meaning) (b : ℕ) (within : used t �
     level = record { count = refl; height = ap above h.level.height };
     gone = h.gone;
     here = block_in t first n b hb ∙ h.here;
-    others = others-in h.level.height h.others;
+    others = others_in h.level.height h.others;
     costs = λ k lt e.
         ⊎_elim (λ a. or_left _ _ (h.costs (place t first k) (down k lt) a))
         (λ a. or_right (m.writable (place t first k)) _
@@ -68,20 +68,20 @@ module _ (t : Table) (first : ℕ) (m n : Meaning) (b : ℕ) (within : used t �
   }
 
   -- refused below with 3: writability is as it was
-  writable-in : Spoiled m (place t first b) n → (k : ℕ) → k < first → (remap_at t first n).writable k ≡ (remap_at t first m).writable k
-  writable-in h k lt =
+  writable_in : Spoiled m (place t first b) n → (k : ℕ) → k < first → (remap_at t first n).writable k ≡ (remap_at t first m).writable k
+  writable_in h k lt =
       ap (λ x. x || any_from n.writable (first + used t) (left t)) (h.writable (place t first k) (down k lt))
       ∙ ap (λ x. m.writable (place t first k) || x)
       (any_same n.writable m.writable (first + used t) (left t) (λ j l. h.writable j (omega arith)))
 
-  spoiled-in : Spoiled m (place t first b) n → Spoiled (remap_at t first m) b (remap_at t first n)
-  spoiled-in h = record {
+  spoiled_in : Spoiled m (place t first b) n → Spoiled (remap_at t first m) b (remap_at t first n)
+  spoiled_in h = record {
     level = record { count = refl; height = ap above h.level.height };
     gone = h.gone;
     here = block_in t first n b hb ∙ h.here;
     again = ap (λ x. record { height = above x; block = b }) h.level.height;
-    others = others-in h.level.height h.others;
-    writable = writable-in h;
+    others = others_in h.level.height h.others;
+    writable = writable_in h;
   }
 
 -- ---- a try that was refused with 3, after which the next spare is tried
@@ -149,9 +149,9 @@ module _ (t : Table) (first : ℕ) (m n : Meaning) (b : ℕ) (more : used t < t.
   within : used t ≤ t.spares
   within = omega arith
 
-  rest-same : rest n.writable ≡ rest m.writable
+  rest_same : rest n.writable ≡ rest m.writable
   unfolding rest
-  rest-same =
+  rest_same =
       any_same n.writable m.writable (first + suc (used t)) (t.spares - suc (used t)) (λ j l. h.writable j (omega arith))
 
   old : (k : ℕ) → (remap_at t first m).writable k ≡ (m.writable (place t first k) || (spare || rest m.writable))
@@ -166,21 +166,21 @@ module _ (t : Table) (first : ℕ) (m n : Meaning) (b : ℕ) (more : used t < t.
       → (remap_at (moved_on t b) first n).writable k ≡ (m.writable p || rest m.writable)
   unfolding rest
   new k p e lt =
-      ap (λ x. n.writable x || rest n.writable) e ∙ ap (λ x. x || rest n.writable) (h.writable p lt) ∙ ap (λ x. m.writable p || x) rest-same
+      ap (λ x. n.writable x || rest n.writable) e ∙ ap (λ x. x || rest n.writable) (h.writable p lt) ∙ ap (λ x. m.writable p || x) rest_same
 
-  new-here : (remap_at (moved_on t b) first n).writable b ≡ (spare || rest m.writable)
+  new_here : (remap_at (moved_on t b) first n).writable b ≡ (spare || rest m.writable)
   unfolding spare
-  new-here = new b (first + used t) (moved_here t first b) (omega arith)
+  new_here = new b (first + used t) (moved_here t first b) (omega arith)
 
-  new-other : (k : ℕ) → k < first → (k ≢ b) → (remap_at (moved_on t b) first n).writable k ≡ (m.writable (place t first k) || rest m.writable)
-  new-other k lt ne = new k (place t first k) (moved_other t first b k ne) (inside t first m within room k lt)
+  new_other : (k : ℕ) → k < first → (k ≢ b) → (remap_at (moved_on t b) first n).writable k ≡ (m.writable (place t first k) || rest m.writable)
+  new_other k lt ne = new k (place t first k) (moved_other t first b k ne) (inside t first m within room k lt)
 
-  here-alike : (remap_at (moved_on t b) first n).writable b ≡ (remap_at t first m).writable b
-  here-alike = new-here ∙ sym (old b ∙ ap (λ x. x || (spare || rest m.writable)) shut)
+  here_alike : (remap_at (moved_on t b) first n).writable b ≡ (remap_at t first m).writable b
+  here_alike = new_here ∙ sym (old b ∙ ap (λ x. x || (spare || rest m.writable)) shut)
 
-  moved-kept : (k : ℕ) → k < first → (k ≢ b) → Kept (remap_at t first m) (remap_at (moved_on t b) first n) k
-  moved-kept k lt ne =
-      let a : Kept (remap_at t first m) (remap_at t first n) k = others-in t first m n b within room hb h.level.height h.others k lt ne in
+  moved_kept : (k : ℕ) → k < first → (k ≢ b) → Kept (remap_at t first m) (remap_at (moved_on t b) first n) k
+  moved_kept k lt ne =
+      let a : Kept (remap_at t first m) (remap_at t first n) k = others_in t first m n b within room hb h.level.height h.others k lt ne in
       let e : place (moved_on t b) first k ≡ place t first k = moved_other t first b k ne in
       record {
         block = ap (λ p. cond (nat_lt k first) (n.block p) None) e ∙ a.block;
@@ -195,24 +195,24 @@ module _ (t : Table) (first : ℕ) (m n : Meaning) (b : ℕ) (more : used t < t.
     present = present;
     gone = h.gone;
     again = ap (λ x. record { height = above x; block = b }) h.level.height;
-    others = moved-kept;
-    alike = here-alike;
+    others = moved_kept;
+    alike = here_alike;
     costs = λ k lt e.
         ⊎_elim
         (λ (q : k ≡ b). subst (λ j. (remap_at t first m).writable j ≡ true) (sym q)
-        (sym here-alike ∙ subst (λ j. (remap_at (moved_on t b) first n).writable j ≡ true) q e))
+        (sym here_alike ∙ subst (λ j. (remap_at (moved_on t b) first n).writable j ≡ true) q e))
         (λ (q : k ≡ b → ⊥).
         old k ∙
         ⊎_elim (λ a. or_left (m.writable (place t first k)) _ a)
         (λ a. or_right (m.writable (place t first k)) _ (or_right spare (rest m.writable) a))
-        (or_cases (m.writable (place t first k)) (rest m.writable) (sym (new-other k lt q) ∙ e)))
+        (or_cases (m.writable (place t first k)) (rest m.writable) (sym (new_other k lt q) ∙ e)))
         (cases_eq k b);
     shut = λ e k lt.
         ⊎_elim
-        (λ (q : k ≡ b). subst (λ j. (remap_at (moved_on t b) first n).writable j ≡ (remap_at t first m).writable j) (sym q) here-alike)
+        (λ (q : k ≡ b). subst (λ j. (remap_at (moved_on t b) first n).writable j ≡ (remap_at t first m).writable j) (sym q) here_alike)
         (λ (q : k ≡ b → ⊥).
-        let s : spare ≡ false = (or_parts spare (rest m.writable) (sym new-here ∙ here-alike ∙ e)).0 in
-        new-other k lt q ∙ sym (old k ∙ ap (λ x. m.writable (place t first k) || (x || rest m.writable)) s))
+        let s : spare ≡ false = (or_parts spare (rest m.writable) (sym new_here ∙ here_alike ∙ e)).0 in
+        new_other k lt q ∙ sym (old k ∙ ap (λ x. m.writable (place t first k) || (x || rest m.writable)) s))
         (cases_eq k b);
   }
 
@@ -248,11 +248,11 @@ is_three gone writable o p e w = ap (λ g. refused_with 3 (cond g (Some (raised 
     ∙ ap (λ x. refused_with 3 (cond x None (Some (raised Unwritable p)))) w
 
 module _ (m : Meaning) (p n : ℕ) (sized : n ≡ 512) (there : p < m.count) where
-  pub refused-shut : refused_with 3 (write_refusal m p n) ≡ true → (m.gone ≡ false) × (m.writable p ≡ false)
-  refused-shut e = three m.gone (m.writable p) (m.gone_origin p) (m.unwritable_origin p) (ap (refused_with 3) (sym (good-write m p there n sized)) ∙ e)
+  pub refused_shut : refused_with 3 (write_refusal m p n) ≡ true → (m.gone ≡ false) × (m.writable p ≡ false)
+  refused_shut e = three m.gone (m.writable p) (m.gone_origin p) (m.unwritable_origin p) (ap (refused_with 3) (sym (good_write m p there n sized)) ∙ e)
 
-  pub shut-refused : m.gone ≡ false → m.writable p ≡ false → refused_with 3 (write_refusal m p n) ≡ true
-  shut-refused e w = ap (refused_with 3) (good-write m p there n sized) ∙ is_three m.gone (m.writable p) (m.gone_origin p) (m.unwritable_origin p) e w
+  pub shut_refused : m.gone ≡ false → m.writable p ≡ false → refused_with 3 (write_refusal m p n) ≡ true
+  shut_refused e w = ap (refused_with 3) (good_write m p there n sized) ∙ is_three m.gone (m.writable p) (m.gone_origin p) (m.unwritable_origin p) e w
 
 pub outcome_count : (m : Meaning) (p : ℕ) (v : List ℕ) (n : Meaning) → Outcome m p v n → n.count ≡ m.count
 outcome_count m p v n (gone_way e same) = ap (λ x. x.count) same
@@ -271,7 +271,7 @@ stop_outcome : (t : Table) (first : ℕ) (m n : Meaning) (b : ℕ) (v : List ℕ
 stop_outcome t first m n b v within room hb last (gone_way e same) = gone_way e (ap (remap_at t first) same)
 stop_outcome t first m n b v within room hb last (taken_way e w h) = taken_way e (or_left _ _ w) (taken_in t first m n b within room hb v h)
 stop_outcome t first m n b v within room hb last (spoiled_way e w h) =
-    spoiled_way e (or_from _ _ w (ap (any_from m.writable (first + used t)) (last e w))) (spoiled-in t first m n b within room hb h)
+    spoiled_way e (or_from _ _ w (ap (any_from m.writable (first + used t)) (last e w))) (spoiled_in t first m n b within room hb h)
 
 -- an answer other than 3 is the layer's own
 answer_stays : (gone writable spare : Bool) (o p q : Origin)
@@ -290,17 +290,17 @@ module _ {S : Type 0} (mean : S → Meaning) (write : S → ℕ → List ℕ →
     pub answer : put_refusal (remap_at u first (mean x)) b ≡ put_refusal (remap_at t first (mean s)) b
     pub room : first + u.spares ≤ (mean x).count
 
-  pub trying-none : (s : S) (t : Table) → first + t.spares ≤ (mean s).count → Trying s t s t
-  trying-none s t room = record { same = refl; answer = refl; room = room }
+  pub trying_none : (s : S) (t : Table) → first + t.spares ≤ (mean s).count → Trying s t s t
+  trying_none s t room = record { same = refl; answer = refl; room = room }
 
-  pub tries-end : (n : ℕ) (s : S) (t : Table) → refused_with 3 (write_refusal (mean s) (place t first b) (length v)) ≡ false
+  pub tries_end : (n : ℕ) (s : S) (t : Table) → refused_with 3 (write_refusal (mean s) (place t first b) (length v)) ≡ false
       → layer (write s (place t first b) v) t ≡ tries mean write first b v n s t
-  tries-end zero s t e = refl
-  tries-end (suc n) s t e = sym (cond-false _ _ _ e)
+  tries_end zero s t e = refl
+  tries_end (suc n) s t e = sym (cond-false _ _ _ e)
 
-  pub tries-next : (n k : ℕ) (s : S) (t : Table) → n ≡ suc k → refused_with 3 (write_refusal (mean s) (place t first b) (length v)) ≡ true
+  pub tries_next : (n k : ℕ) (s : S) (t : Table) → n ≡ suc k → refused_with 3 (write_refusal (mean s) (place t first b) (length v)) ≡ true
       → tries mean write first b v k (write s (place t first b) (clipped v)) (moved_on t b) ≡ tries mean write first b v n s t
-  tries-next n k s t q e = sym (ap (λ j. tries mean write first b v j s t) q ∙ cond-true _ _ _ e)
+  tries_next n k s t q e = sym (ap (λ j. tries mean write first b v j s t) q ∙ cond-true _ _ _ e)
 
 -- what the tries to write v to block b of a layer that meant r end in, over a member of k blocks, of which n are spares
 pub record Ended {S : Type 0} (mean : S → Meaning) (first b : ℕ) (v : List ℕ) (r : Meaning) (k n : ℕ) (x : Layer S) : Type 0 where
@@ -328,12 +328,12 @@ module _ {S : Type 0} (sound : S → Type 0) (mean : S → Meaning) (see : S →
     module _ (more : used t < t.spares) (w : List ℕ) (lw : length w ≡ 512) (refused : refused_with 3 (write_refusal (mean s) (place t first b) (length v)) ≡ true) where
       pub spoils : Spoiled (mean s) (place t first b) (mean (write s (place t first b) w))
       spoils =
-          let q = refused-shut (mean s) (place t first b) (length v) sized there refused in
+          let q = refused_shut (mean s) (place t first b) (length v) sized there refused in
           spoiled_of (mean s) (place t first b) w (mean (write s (place t first b) w)) q.0 q.1 (way w lw)
 
       passes : Passed (remap_at t first (mean s)) b (remap_at (moved_on t b) first (mean (write s (place t first b) w)))
       passes =
-          let q = refused-shut (mean s) (place t first b) (length v) sized there refused in
+          let q = refused_shut (mean s) (place t first b) (length v) sized there refused in
           passed_on t first (mean s) (mean (write s (place t first b) w)) b more room hb q.0 q.1 spoils
 
   pub ends : (n : ℕ) (s : S) (t : Table) → sound s → used t + n ≡ t.spares → first + t.spares ≤ (mean s).count
@@ -357,40 +357,40 @@ module _ {S : Type 0} (sound : S → Type 0) (mean : S → Meaning) (see : S →
         spares = ih.spares;
       })
       (λ not3. stopped s t ok within room
-      (λ e w. absurd (false≢true (sym not3 ∙ shut-refused (mean s) p (length v) sized (there s t ok within room) e w))))
+      (λ e w. absurd (false≢true (sym not3 ∙ shut_refused (mean s) p (length v) sized (there s t ok within room) e w))))
 
   -- a layer on which the tries end is sound
-  pub tries-sound : Bytes (length v) v → (n : ℕ) (s : S) (t : Table) → sound s → used t + n ≡ t.spares → LayerSound sound (tries mean write first b v n s t)
-  tries-sound low zero s t ok few = record { below = law.wrote_sound s (place t first b) v ok low; within = omega arith }
-  tries-sound low (suc n) s t ok few =
+  pub tries_sound : Bytes (length v) v → (n : ℕ) (s : S) (t : Table) → sound s → used t + n ≡ t.spares → LayerSound sound (tries mean write first b v n s t)
+  tries_sound low zero s t ok few = record { below = law.wrote_sound s (place t first b) v ok low; within = omega arith }
+  tries_sound low (suc n) s t ok few =
       cond_both (refused_with 3 (write_refusal (mean s) (place t first b) (length v)))
       (tries mean write first b v n (write s (place t first b) (clipped v)) (moved_on t b)) (layer (write s (place t first b) v) t)
       (LayerSound sound)
-      (λ e. tries-sound low n (write s (place t first b) (clipped v)) (moved_on t b) (law.wrote_sound s (place t first b) (clipped v) ok (bytes_clipped v)) (omega arith))
+      (λ e. tries_sound low n (write s (place t first b) (clipped v)) (moved_on t b) (law.wrote_sound s (place t first b) (clipped v) ok (bytes_clipped v)) (omega arith))
       (λ e. record { below = law.wrote_sound s (place t first b) v ok low; within = omega arith })
 
   -- ---- a loop over the tries
   module _ (s : S) (t : Table) (x : S) (u : Table) (ok : sound x) (within : used u ≤ u.spares) (h : Trying mean write first b v s t x u) where
     -- a try that is not refused with 3 gives the layer's answer
-    pub trying-all : refused_with 3 (write_refusal (mean x) (place u first b) (length v)) ≡ false
+    pub trying_all : refused_with 3 (write_refusal (mean x) (place u first b) (length v)) ≡ false
         → (write_refusal (mean x) (place u first b) (length v) ≡ put_refusal (remap_at t first (mean s)) b)
         × (layer (write x (place u first b) v) u ≡ tries mean write first b v (left t) s t)
-    trying-all e =
-        let good = good-write (mean x) (place u first b) (there x u ok within h.room) (length v) sized in (
+    trying_all e =
+        let good = good_write (mean x) (place u first b) (there x u ok within h.room) (length v) sized in (
           good
               ∙ answer_stays (mean x).gone ((mean x).writable (place u first b)) (any_from (mean x).writable (first + used u) (left u))
               ((mean x).gone_origin (place u first b)) ((mean x).unwritable_origin (place u first b)) ((remap_at u first (mean x)).unwritable_origin b)
               (ap (refused_with 3) (sym good) ∙ e)
               ∙ h.answer,
-          tries-end mean write first b v (left u) x u e ∙ h.same,
+          tries_end mean write first b v (left u) x u e ∙ h.same,
         )
 
     -- one that is, with no spare left, is answered by the layer's own fault
-    pub trying-spent : refused_with 3 (write_refusal (mean x) (place u first b) (length v)) ≡ true → left u ≡ 0
+    pub trying_spent : refused_with 3 (write_refusal (mean x) (place u first b) (length v)) ≡ true → left u ≡ 0
         → (Some (own (remap_at u first (mean (write x (place u first b) v))) Unwritable b) ≡ put_refusal (remap_at t first (mean s)) b)
         × (layer (write x (place u first b) v) u ≡ tries mean write first b v (left t) s t)
-    trying-spent e none =
-        let q = refused-shut (mean x) (place u first b) (length v) sized (there x u ok within h.room) e in
+    trying_spent e none =
+        let q = refused_shut (mean x) (place u first b) (length v) sized (there x u ok within h.room) e in
         let n = mean (write x (place u first b) v) in
         let high : n.height ≡ (mean x).height =
         (spoiled_of (mean x) (place u first b) v n q.0 q.1 (way x u ok within h.room v sized)).level.height in (
@@ -403,12 +403,12 @@ module _ {S : Type 0} (sound : S → Type 0) (mean : S → Meaning) (see : S →
         )
 
     -- with a spare left, that is tried next
-    pub trying-more : refused_with 3 (write_refusal (mean x) (place u first b) (length v)) ≡ true → used u < u.spares
+    pub trying_more : refused_with 3 (write_refusal (mean x) (place u first b) (length v)) ≡ true → used u < u.spares
         → ((i : ℕ) → slice_index v i < 256) → Trying mean write first b v s t (write x (place u first b) v) (moved_on u b)
-    trying-more e more low = record {
+    trying_more e more low = record {
       same =
           ap (λ w. tries mean write first b v (left (moved_on u b)) (write x (place u first b) w) (moved_on u b)) (sym (clipped_same v low))
-          ∙ tries-next mean write first b v (left u) (left (moved_on u b)) x u (omega arith) e
+          ∙ tries_next mean write first b v (left u) (left (moved_on u b)) x u (omega arith) e
           ∙ h.same;
       answer =
           passed_refusal (remap_at u first (mean x)) (remap_at (moved_on u b) first (mean (write x (place u first b) v))) b

@@ -5,10 +5,10 @@ ghost use Rattle.code.specs.Blocks.{block_size};
 ghost use Rattle.member.specs.Faults.{refusal};
 ghost use Rattle.member.specs.Meaning.{most_blocks, own, put_refusal};
 ghost use Rattle.remap.specs.Places.{table_of, unmoved, kept_back, place, left};
-ghost use Rattle.remap.specs.Remapped.{remap_at, remapped, own_count, Layer, layer, LayerSound, layer-meaning, layer-seen, layer-wrote, layer_ticked, layer_renewed, tries};
+ghost use Rattle.remap.specs.Remapped.{remap_at, remapped, own_count, Layer, layer, LayerSound, layer_meaning, layer_seen, layer_wrote, layer_ticked, layer_renewed, tries};
 ghost use Rattle.remap.specs.Rules.{PlacesApart, MovesToLowest};
 ghost use Rattle.remap.specs.Tables.{table_within};
-ghost use Rattle.remap.specs.Laws.{layer-lawful};
+ghost use Rattle.remap.specs.Laws.{layer_lawful};
 
 use crate::moves::Moves;
 use code::BLOCK;
@@ -112,11 +112,11 @@ impl<M: Member> Member for Remap<M> {
 
     ghost sound = { λ s. LayerSound M.Member.sound s };
 
-    ghost meaning = { λ s. layer-meaning M.Member.meaning s };
+    ghost meaning = { λ s. layer_meaning M.Member.meaning s };
 
-    ghost seen = { λ s b n. layer-seen M.Member.meaning M.Member.seen s b n };
+    ghost seen = { λ s b n. layer_seen M.Member.meaning M.Member.seen s b n };
 
-    ghost wrote = { λ s b v. layer-wrote M.Member.meaning M.Member.wrote s b v };
+    ghost wrote = { λ s b v. layer_wrote M.Member.meaning M.Member.wrote s b v };
 
     ghost ticked = { λ s. layer_ticked M.Member.ticked s };
 
@@ -124,7 +124,7 @@ impl<M: Member> Member for Remap<M> {
 
     ghost holds = { λ x. record { below = M.Member.holds x.below; within = table_within x.moves } };
 
-    ghost lawful = { layer-lawful M.Member.sound M.Member.meaning M.Member.seen M.Member.wrote M.Member.ticked M.Member.renewed
+    ghost lawful = { layer_lawful M.Member.sound M.Member.meaning M.Member.seen M.Member.wrote M.Member.ticked M.Member.renewed
         M.Member.lawful };
 
     fn count(&self) -> usize {

@@ -97,14 +97,14 @@ module _ (C : Coding) (k : ℕ) (d : ℕ → List ℕ) (blocks : List (List ℕ)
         ∙ get_or_append_left (map d (range_with_len 0 k)) (p ∷ []) [] i (omega (arith, long))
         ∙ get_or-map-range_with_len d 0 k i i [] l (omega arith)
 
-    block-P : get_or blocks k [] ≡ p
-    block-P =
+    block_P : get_or blocks k [] ≡ p
+    block_P =
         ap (λ b. get_or b k []) is
         ∙ get_or_append_left (map d (range_with_len 0 k) ++ (p ∷ [])) (q ∷ []) [] k (omega (arith, longer))
         ∙ get_or_push (map d (range_with_len 0 k)) p [] k long
 
-    block-Q : get_or blocks (k + 1) [] ≡ q
-    block-Q = ap (λ b. get_or b (k + 1) []) is ∙ get_or_push (map d (range_with_len 0 k) ++ (p ∷ [])) q [] (k + 1) longer
+    block_Q : get_or blocks (k + 1) [] ≡ q
+    block_Q = ap (λ b. get_or b (k + 1) []) is ∙ get_or_push (map d (range_with_len 0 k) ++ (p ∷ [])) q [] (k + 1) longer
 
     pub whole_of : k ≤ C.limit → Content k d → p ≡ column C k d k → q ≡ column C k d (k + 1) → Whole C k blocks
     whole_of h sized ep eq = record {
@@ -113,8 +113,8 @@ module _ (C : Coding) (k : ℕ) (d : ℕ → List ℕ) (blocks : List (List ℕ)
       sized = λ i l. subst Block (sym (block_at i l)) (sized i l);
       columns = λ t l. elim (kind k t l) [
         | is_data m ↦ sym (column_data C k (content blocks) t m)
-        | is_P e ↦ ap (λ x. get_or blocks x []) e ∙ block-P ∙ ep ∙ ap (column C k d) (sym e) ∙ column_same C k d (content blocks) (λ i m. sym (block_at i m)) t l
-        | is_Q e ↦ ap (λ x. get_or blocks x []) e ∙ block-Q ∙ eq ∙ ap (column C k d) (sym e) ∙ column_same C k d (content blocks) (λ i m. sym (block_at i m)) t l
+        | is_P e ↦ ap (λ x. get_or blocks x []) e ∙ block_P ∙ ep ∙ ap (column C k d) (sym e) ∙ column_same C k d (content blocks) (λ i m. sym (block_at i m)) t l
+        | is_Q e ↦ ap (λ x. get_or blocks x []) e ∙ block_Q ∙ eq ∙ ap (column C k d) (sym e) ∙ column_same C k d (content blocks) (λ i m. sym (block_at i m)) t l
       ];
     }
 

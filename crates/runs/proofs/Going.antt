@@ -20,15 +20,15 @@ use Rattle.runs.specs.Told.{event, event_with, Goes_on}
 
 -- ---- what no call changes
 module _ {C L B : Type 0} (m : Means C L B) (v w : Volume C L B) where
-  abbrev shape-by : C → L → Size → Shape
-  shape-by c l z = shape_at (m.coding c) (m.slot l) (m.column l) (size_of (m.coding c).limit z)
+  abbrev shape_by : C → L → Size → Shape
+  shape_by c l z = shape_at (m.coding c) (m.slot l) (m.column l) (size_of (m.coding c).limit z)
 
   pub shape_same : w.code ≡ v.code → w.layout ≡ v.layout → w.size ≡ v.size → shape m w ≡ shape m v
   shape_same a b e =
-      ap (λ (x : C). shape-by x w.layout w.size) a ∙ ap (λ (x : L). shape-by v.code x w.size) b ∙ ap (shape-by v.code v.layout) e
+      ap (λ (x : C). shape_by x w.layout w.size) a ∙ ap (λ (x : L). shape_by v.code x w.size) b ∙ ap (shape_by v.code v.layout) e
 
-  pub records-same : w.table ≡ v.table → records m w ≡ records m v
-  records-same e = ap (λ t. records_of t.rows) e
+  pub records_same : w.table ≡ v.table → records m w ≡ records m v
+  records_same e = ap (λ t. records_of t.rows) e
 
 -- ---- one event more
 abbrev is_write : Call → Bool

@@ -101,23 +101,23 @@ abbrev head : Meant → List ℕ → List ℕ
 head m rest = two_bytes (length m.entries) ++ (two_bytes (length m.operations) ++ (two_bytes m.code ++ rest))
 
 module _ (m : Meant) where
-  entries-told : entry_count (encoded m) ≡ length m.entries
-  entries-told = whole (length m.entries)
+  entries_told : entry_count (encoded m) ≡ length m.entries
+  entries_told = whole (length m.entries)
 
-  operations-told : operation_count (encoded m) ≡ length m.operations
-  operations-told = whole (length m.operations)
+  operations_told : operation_count (encoded m) ≡ length m.operations
+  operations_told = whole (length m.operations)
 
-  code-told : code_at (encoded m) ≡ m.code
-  code-told = whole m.code
+  code_told : code_at (encoded m) ≡ m.code
+  code_told = whole m.code
 
-  size-told : length (encoded m) ≡ script_size (encoded m)
-  size-told =
+  size_told : length (encoded m) ≡ script_size (encoded m)
+  size_told =
       let K = kinds m.entries in
       let T = triples m.entries in
       let A = acts m.operations in
       let Q = pairs m.operations in
-      let f = entries-told in
-      let c = operations-told in
+      let f = entries_told in
+      let c = operations_told in
       let k = length_kinds m.entries in
       let t = length_triples m.entries in
       let a = length_acts m.operations in
@@ -125,58 +125,58 @@ module _ (m : Meant) where
       let body : length (K ++ (T ++ (A ++ Q))) ≡ length K + (length T + (length A + length Q)) = simp length-append in
       omega (arith, f, c, k, t, a, q, body)
 
-  good-told : Allowed m → is_script (encoded m) ≡ true
-  good-told ok =
-      let f : entry_count (encoded m) ≤ 16 = omega (arith, entries-told, ok.entries) in
-      let c : operation_count (encoded m) ≤ 1000 = omega (arith, operations-told, ok.operations) in
-      let n : code_at (encoded m) ≤ 2 = omega (arith, code-told, ok.code) in
-      and_from _ _ (le-leb _ _ f) (and_from _ _ (le-leb _ _ c) (and_from _ _ (le-leb _ _ n) (eq-eqb _ _ size-told)))
+  good_told : Allowed m → is_script (encoded m) ≡ true
+  good_told ok =
+      let f : entry_count (encoded m) ≤ 16 = omega (arith, entries_told, ok.entries) in
+      let c : operation_count (encoded m) ≤ 1000 = omega (arith, operations_told, ok.operations) in
+      let n : code_at (encoded m) ≤ 2 = omega (arith, code_told, ok.code) in
+      and_from _ _ (le-leb _ _ f) (and_from _ _ (le-leb _ _ c) (and_from _ _ (le-leb _ _ n) (eq-eqb _ _ size_told)))
 
-  kind-told : (i : ℕ) → i < length m.entries → get_or (encoded m) (6 + i) 0 ≡ (get_or m.entries i no_entry).kind
-  kind-told i h =
+  kind_told : (i : ℕ) → i < length m.entries → get_or (encoded m) (6 + i) 0 ≡ (get_or m.entries i no_entry).kind
+  kind_told i h =
       let rest = triples m.entries ++ (acts m.operations ++ pairs m.operations) in
       byte_after (head m []) (kinds m.entries ++ rest) (6 + i) i refl ∙ kind_at m.entries rest i no_entry h
 
-  triple-told : (n j : ℕ) → n ≡ 6 + entry_count (encoded m) + j
+  triple_told : (n j : ℕ) → n ≡ 6 + entry_count (encoded m) + j
       → number_at (encoded m) n ≡ number_at (triples m.entries ++ (acts m.operations ++ pairs m.operations)) j
-  triple-told n j e =
+  triple_told n j e =
       let k = length_kinds m.entries in
-      let f = entries-told in
+      let f = entries_told in
       let long : n ≡ length (head m (kinds m.entries)) + j = omega (arith, e, f, k) in
       number_after (head m (kinds m.entries)) (triples m.entries ++ (acts m.operations ++ pairs m.operations)) n j long
 
-  entry-told : (i : ℕ) → entry_at (encoded m) i ≡ slice_get m.entries i
-  entry-told i = elim (cases_lt i (length m.entries)) [
+  entry_told : (i : ℕ) → entry_at (encoded m) i ≡ slice_get m.entries i
+  entry_told i = elim (cases_lt i (length m.entries)) [
     | inl h ↦
         let from : ℕ = 6 + entry_count (encoded m) in
         let t = triple_at m.entries (acts m.operations ++ pairs m.operations) i no_entry h in
-        let there : i < entry_count (encoded m) = omega (arith, entries-told) in
+        let there : i < entry_count (encoded m) = omega (arith, entries_told) in
         cond-true _ _ _ (lt-ltb i (entry_count (encoded m)) there)
-        ∙ ap Some (entry_is (get_or m.entries i no_entry) _ _ _ _ (kind-told i h)
-        (triple-told (from + 6 * i) (6 * i) refl ∙ t.round)
-        (triple-told (from + 6 * i + 2) (6 * i + 2) (omega arith) ∙ t.slot)
-        (triple-told (from + 6 * i + 4) (6 * i + 4) (omega arith) ∙ t.block))
+        ∙ ap Some (entry_is (get_or m.entries i no_entry) _ _ _ _ (kind_told i h)
+        (triple_told (from + 6 * i) (6 * i) refl ∙ t.round)
+        (triple_told (from + 6 * i + 2) (6 * i + 2) (omega arith) ∙ t.slot)
+        (triple_told (from + 6 * i + 4) (6 * i + 4) (omega arith) ∙ t.block))
         ∙ sym (slice_get-get_or m.entries i no_entry h)
     | inr h ↦
-        let past : entry_count (encoded m) ≤ i = omega (arith, entries-told) in
+        let past : entry_count (encoded m) ≤ i = omega (arith, entries_told) in
         cond-false _ _ _ (le-ltb i (entry_count (encoded m)) past) ∙ sym (slice_get_past m.entries i h)
   ]
 
-  act-told : (i : ℕ) → i < length m.operations
+  act_told : (i : ℕ) → i < length m.operations
       → get_or (encoded m) (6 + entry_count (encoded m) + 6 * entry_count (encoded m) + i) 0 ≡ (get_or m.operations i no_operation).number
-  act-told i h =
+  act_told i h =
       let K = kinds m.entries in
       let T = triples m.entries in
       let R = acts m.operations ++ pairs m.operations in
       let n : ℕ = 6 + entry_count (encoded m) + 6 * entry_count (encoded m) + i in
       let cut : head m (K ++ T) ++ R ≡ encoded m = ap (head m) (append_assoc K T R) in
       let body : length (K ++ T) ≡ length K + length T = simp length-append in
-      let long : n ≡ length (head m (K ++ T)) + i = omega (arith, entries-told, length_kinds m.entries, length_triples m.entries, body) in
+      let long : n ≡ length (head m (K ++ T)) + i = omega (arith, entries_told, length_kinds m.entries, length_triples m.entries, body) in
       ap (λ z. get_or z n 0) (sym cut) ∙ byte_after (head m (K ++ T)) R n i long ∙ act_at m.operations (pairs m.operations) i no_operation h
 
-  pair-told : (n j : ℕ) → n ≡ 6 + entry_count (encoded m) + 6 * entry_count (encoded m) + operation_count (encoded m) + j
+  pair_told : (n j : ℕ) → n ≡ 6 + entry_count (encoded m) + 6 * entry_count (encoded m) + operation_count (encoded m) + j
       → number_at (encoded m) n ≡ number_at (pairs m.operations) j
-  pair-told n j e =
+  pair_told n j e =
       let K = kinds m.entries in
       let T = triples m.entries in
       let A = acts m.operations in
@@ -184,27 +184,27 @@ module _ (m : Meant) where
       let cut : head m (K ++ (T ++ A)) ++ Q ≡ encoded m = ap (head m) (append_assoc K (T ++ A) Q ∙ ap (λ z. K ++ z) (append_assoc T A Q)) in
       let body : length (K ++ (T ++ A)) ≡ length K + (length T + length A) = simp length-append in
       let long : n ≡ length (head m (K ++ (T ++ A))) + j =
-      omega (arith, e, entries-told, operations-told, length_kinds m.entries, length_triples m.entries, length_acts m.operations, body) in
+      omega (arith, e, entries_told, operations_told, length_kinds m.entries, length_triples m.entries, length_acts m.operations, body) in
       ap (λ z. number_at z n) (sym cut) ∙ number_after (head m (K ++ (T ++ A))) Q n j long
 
-  operation-told : (i : ℕ) → operation_at (encoded m) i ≡ slice_get m.operations i
-  operation-told i = elim (cases_lt i (length m.operations)) [
+  operation_told : (i : ℕ) → operation_at (encoded m) i ≡ slice_get m.operations i
+  operation_told i = elim (cases_lt i (length m.operations)) [
     | inl h ↦
         let from : ℕ = 6 + entry_count (encoded m) + 6 * entry_count (encoded m) + operation_count (encoded m) in
         let t = pair_at m.operations i no_operation h in
-        let there : i < operation_count (encoded m) = omega (arith, operations-told) in
+        let there : i < operation_count (encoded m) = omega (arith, operations_told) in
         cond-true _ _ _ (lt-ltb i (operation_count (encoded m)) there)
-        ∙ ap Some (operation_is (get_or m.operations i no_operation) _ _ _ (act-told i h)
-        (pair-told (from + 4 * i) (4 * i) refl ∙ t.x)
-        (pair-told (from + 4 * i + 2) (4 * i + 2) (omega arith) ∙ t.y))
+        ∙ ap Some (operation_is (get_or m.operations i no_operation) _ _ _ (act_told i h)
+        (pair_told (from + 4 * i) (4 * i) refl ∙ t.x)
+        (pair_told (from + 4 * i + 2) (4 * i + 2) (omega arith) ∙ t.y))
         ∙ sym (slice_get-get_or m.operations i no_operation h)
     | inr h ↦
-        let past : operation_count (encoded m) ≤ i = omega (arith, operations-told) in
+        let past : operation_count (encoded m) ≤ i = omega (arith, operations_told) in
         cond-false _ _ _ (le-ltb i (operation_count (encoded m)) past) ∙ sym (slice_get_past m.operations i h)
   ]
 
 pub reads_back : ReadsBack
-reads_back m ok = record { good = good-told m ok; code = code-told m; entries = entry-told m; operations = operation-told m }
+reads_back m ok = record { good = good_told m ok; code = code_told m; entries = entry_told m; operations = operation_told m }
 
 -- ---- and back
 abbrev Low : List ℕ → Type 0

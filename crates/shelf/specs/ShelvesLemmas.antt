@@ -11,7 +11,7 @@ use Rattle.member.specs.Faults.{Refusal, raised}
 use Rattle.member.specs.Meaning.{Meaning, most_blocks, read_refusal, write_refusal}
 use Rattle.member.specs.Changes.{Written, Ticked, Renewed}
 use Rattle.member.specs.Runs.{bottom_origin, cut, pasted, image_meaning, image_wrote, image_count}
-use Rattle.member.specs.RunsLemmas.{read_ok, handed-ok, wrote-ok, image_room, image_writes, image_lawful, length-wrote, low-wrote, low_take, low_drop, low_append}
+use Rattle.member.specs.RunsLemmas.{read_ok, handed_ok, wrote_ok, image_room, image_writes, image_lawful, length_wrote, low_wrote, low_take, low_drop, low_append}
 use Rattle.bank.specs.Slots.{Slots, no_slot, on_slot, slot_handed}
 use Rattle.bank.specs.Changes.{Changed, SlotWritten, Lawful}
 use Rattle.shelf.specs.Shelves.{Shelved, shelved, shelf_sound, span, part, with_part, shelf_meaning, shelf_wrote, Found}
@@ -48,14 +48,14 @@ beyond_share m n b p some stops over =
     omega (arith, q)
 
 module _ (xs : List ℕ) (n i : ℕ) (lt : i < n) (ys : List ℕ) (ly : length ys ≡ length (part xs n i)) where
-  pub length-with : length (with_part xs n i ys) ≡ length xs
-  length-with = same_len_mid (i * span xs n) (span xs n) xs ys ly
+  pub length_with : length (with_part xs n i ys) ≡ length xs
+  length_with = same_len_mid (i * span xs n) (span xs n) xs ys ly
 
   at_part : (k : ℕ) → part (with_part xs n i ys) n k ≡ take (span xs n) (drop (k * span xs n) (with_part xs n i ys))
-  at_part k = ap (λ l. take (((l / 512) / n) * 512) (drop (k * (((l / 512) / n) * 512)) (with_part xs n i ys))) length-with
+  at_part k = ap (λ l. take (((l / 512) / n) * 512) (drop (k * (((l / 512) / n) * 512)) (with_part xs n i ys))) length_with
 
-  pub part-here : part (with_part xs n i ys) n i ≡ ys
-  part-here =
+  pub part_here : part (with_part xs n i ys) n i ≡ ys
+  part_here =
       let r = room xs n i lt in
       let e : span xs n ≡ (i * span xs n + span xs n) - i * span xs n = omega arith in
       at_part i
@@ -67,8 +67,8 @@ module _ (xs : List ℕ) (n i : ℕ) (lt : i < n) (ys : List ℕ) (ly : length y
       let e : span xs n ≡ (k * span xs n + span xs n) - k * span xs n = omega arith in
       ap (λ m. take m (drop (k * span xs n) zs)) e ∙ between_is zs (k * span xs n) (k * span xs n + span xs n)
 
-  pub part-other : (k : ℕ) → (k ≢ i) → part (with_part xs n i ys) n k ≡ part xs n k
-  part-other k ne =
+  pub part_other : (k : ℕ) → (k ≢ i) → part (with_part xs n i ys) n k ≡ part xs n k
+  part_other k ne =
       let r = room xs n i lt in
       at_part k
       ∙ ⊎_elim (λ (e : k ≡ i). absurd (ne e))
@@ -82,12 +82,12 @@ module _ (xs : List ℕ) (n i : ℕ) (lt : i < n) (ys : List ℕ) (ly : length y
       (cases_order k i)
 
   -- the image in one slot changed as R says
-  pub shelf-changed : (R : Meaning → Meaning → Type 0) → R (image_meaning (part xs n i)) (image_meaning ys)
+  pub shelf_changed : (R : Meaning → Meaning → Type 0) → R (image_meaning (part xs n i)) (image_meaning ys)
       → Changed R (shelf_meaning (shelved xs n)) i (shelf_meaning (shelved (with_part xs n i ys) n))
-  shelf-changed R h = record {
+  shelf_changed R h = record {
     size = refl;
-    here = λ _. subst (λ x. R (image_meaning (part xs n i)) (image_meaning x)) (sym part-here) h;
-    others = λ k ne. ap image_meaning (part-other k ne);
+    here = λ _. subst (λ x. R (image_meaning (part xs n i)) (image_meaning x)) (sym part_here) h;
+    others = λ k ne. ap image_meaning (part_other k ne);
     beyond = λ le. absurd (omega arith);
   }
 
@@ -106,67 +106,67 @@ sound_part : (s : Shelved) → shelf_sound s → (i : ℕ) → Bytes (length (pa
 sound_part s h i = record { long = refl; bytes = low_part s.bytes s.images i h.bytes }
 
 module _ (R : Meaning → Meaning → Type 0) (s : Shelved) (i : ℕ) where
-  pub nothing-changed : R (image_meaning (part s.bytes s.images i)) (image_meaning (part s.bytes s.images i))
+  pub nothing_changed : R (image_meaning (part s.bytes s.images i)) (image_meaning (part s.bytes s.images i))
       → Changed R (shelf_meaning s) i (shelf_meaning s)
-  nothing-changed h = record { size = refl; here = λ _. h; others = λ k ne. refl; beyond = λ le. refl }
+  nothing_changed h = record { size = refl; here = λ _. h; others = λ k ne. refl; beyond = λ le. refl }
 
-  beyond-changed : s.images ≤ i → Changed R (shelf_meaning s) i (shelf_meaning s)
-  beyond-changed le = record { size = refl; here = λ lt. absurd (omega arith); others = λ k ne. refl; beyond = λ _. refl }
+  beyond_changed : s.images ≤ i → Changed R (shelf_meaning s) i (shelf_meaning s)
+  beyond_changed le = record { size = refl; here = λ lt. absurd (omega arith); others = λ k ne. refl; beyond = λ _. refl }
 
 module _ (s : Shelved) (i b : ℕ) (v : List ℕ) where
-  pub length-image : length (image_wrote (part s.bytes s.images i) b v) ≡ length (part s.bytes s.images i)
-  length-image =
-      length-wrote (image_count (part s.bytes s.images i)) (part s.bytes s.images i) (image_room (part s.bytes s.images i)) b v
+  pub length_image : length (image_wrote (part s.bytes s.images i) b v) ≡ length (part s.bytes s.images i)
+  length_image =
+      length_wrote (image_count (part s.bytes s.images i)) (part s.bytes s.images i) (image_room (part s.bytes s.images i)) b v
 
-  pub wrote-here : i < s.images
+  pub wrote_here : i < s.images
       → shelf_wrote s i b v ≡ shelved (with_part s.bytes s.images i (image_wrote (part s.bytes s.images i) b v)) s.images
-  wrote-here lt = cond-true _ _ _ (lt-ltb i s.images lt)
+  wrote_here lt = cond-true _ _ _ (lt-ltb i s.images lt)
 
-  pub wrote-beyond : s.images ≤ i → shelf_wrote s i b v ≡ s
-  wrote-beyond le = cond-false _ _ _ (le-ltb i s.images le)
+  pub wrote_beyond : s.images ≤ i → shelf_wrote s i b v ≡ s
+  wrote_beyond le = cond-false _ _ _ (le-ltb i s.images le)
 
-  pub shelf-writes : SlotWritten (shelf_meaning s) i b v (shelf_meaning (shelf_wrote s i b v))
-  shelf-writes =
+  pub shelf_writes : SlotWritten (shelf_meaning s) i b v (shelf_meaning (shelf_wrote s i b v))
+  shelf_writes =
       ⊎_elim
-      (λ (lt : i < s.images). subst (λ t. SlotWritten (shelf_meaning s) i b v (shelf_meaning t)) (sym (wrote-here lt))
-      (shelf-changed s.bytes s.images i lt _ length-image (λ m n. Written m b v n) (image_writes (part s.bytes s.images i) b v)))
-      (λ (le : s.images ≤ i). subst (λ t. SlotWritten (shelf_meaning s) i b v (shelf_meaning t)) (sym (wrote-beyond le))
-      (beyond-changed (λ m n. Written m b v n) s i le))
+      (λ (lt : i < s.images). subst (λ t. SlotWritten (shelf_meaning s) i b v (shelf_meaning t)) (sym (wrote_here lt))
+      (shelf_changed s.bytes s.images i lt _ length_image (λ m n. Written m b v n) (image_writes (part s.bytes s.images i) b v)))
+      (λ (le : s.images ≤ i). subst (λ t. SlotWritten (shelf_meaning s) i b v (shelf_meaning t)) (sym (wrote_beyond le))
+      (beyond_changed (λ m n. Written m b v n) s i le))
       (cases_lt i s.images)
 
-  pub wrote-low : shelf_sound s → Bytes (length v) v → (k : ℕ) → slice_index (shelf_wrote s i b v).bytes k < 256
-  wrote-low h g k =
+  pub wrote_low : shelf_sound s → Bytes (length v) v → (k : ℕ) → slice_index (shelf_wrote s i b v).bytes k < 256
+  wrote_low h g k =
       ⊎_elim
-      (λ (lt : i < s.images). subst (λ t. slice_index t.bytes k < 256) (sym (wrote-here lt))
+      (λ (lt : i < s.images). subst (λ t. slice_index t.bytes k < 256) (sym (wrote_here lt))
       (low_with s.bytes s.images i _ h.bytes
-      (low-wrote (image_count (part s.bytes s.images i)) (part s.bytes s.images i) (image_room (part s.bytes s.images i)) b v
+      (low_wrote (image_count (part s.bytes s.images i)) (part s.bytes s.images i) (image_room (part s.bytes s.images i)) b v
       (low_part s.bytes s.images i h.bytes) g.bytes)
       k))
-      (λ (le : s.images ≤ i). subst (λ t. slice_index t.bytes k < 256) (sym (wrote-beyond le)) (h.bytes k))
+      (λ (le : s.images ≤ i). subst (λ t. slice_index t.bytes k < 256) (sym (wrote_beyond le)) (h.bytes k))
       (cases_lt i s.images)
 
 pub shelf_lawful : Lawful shelf_sound shelf_meaning (λ s i b n. s) shelf_wrote (λ s i. s) (λ s i. s)
 shelf_lawful = record {
   means = λ s h i lt. image_lawful.means (part s.bytes s.images i) (sound_part s h i);
   sees = λ s i b n h. refl;
-  writes = λ s i b v h. shelf-writes s i b v;
-  ticks = λ s i h. nothing-changed Ticked s i (image_lawful.ticks (part s.bytes s.images i) (sound_part s h i));
-  renews = λ s i h. nothing-changed Renewed s i (image_lawful.renews (part s.bytes s.images i) (sound_part s h i));
+  writes = λ s i b v h. shelf_writes s i b v;
+  ticks = λ s i h. nothing_changed Ticked s i (image_lawful.ticks (part s.bytes s.images i) (sound_part s h i));
+  renews = λ s i h. nothing_changed Renewed s i (image_lawful.renews (part s.bytes s.images i) (sound_part s h i));
   seen_sound = λ s i b n h. h;
-  wrote_sound = λ s i b v h g. record { long = refl; bytes = wrote-low s i b v h g };
+  wrote_sound = λ s i b v h g. record { long = refl; bytes = wrote_low s i b v h g };
   ticked_sound = λ s i h. h;
   renewed_sound = λ s i h. h;
 }
 
 -- ---- how a call on block b of slot i, with a buffer of m bytes, is answered
 module _ (xs : List ℕ) (n i b m : ℕ) (lt : i < n) (sized : m ≡ block_size) where
-  pub block-found : b < (image_meaning (part xs n i)).count
+  pub block_found : b < (image_meaning (part xs n i)).count
       → on_slot (shelf_meaning (shelved xs n)) i b (λ x. read_refusal x b m) ≡ None
-  block-found low = cond-true _ _ _ (lt-ltb i n lt) ∙ read_ok (image_count (part xs n i)) (part xs n i) b low m sized
+  block_found low = cond-true _ _ _ (lt-ltb i n lt) ∙ read_ok (image_count (part xs n i)) (part xs n i) b low m sized
 
-  pub block-beyond : (image_meaning (part xs n i)).count ≤ b
+  pub block_beyond : (image_meaning (part xs n i)).count ≤ b
       → on_slot (shelf_meaning (shelved xs n)) i b (λ x. read_refusal x b m) ≡ Some (raised NoBlock (bottom_origin b))
-  block-beyond high =
+  block_beyond high =
       cond-true _ _ _ (lt-ltb i n lt)
       ∙ cond-true _ _ _ (eq-eqb m block_size sized)
       ∙ cond-false _ _ _ (le-ltb b (image_count (part xs n i)) high)
@@ -226,16 +226,16 @@ module _ (xs : List ℕ) (n i b m a e : ℕ) (at : Found xs n i b m a e) where
   pub lent_is : take (e - a) (drop a xs) ≡ part xs n i
   lent_is = ap (λ w. take w (drop a xs)) width ∙ ap (λ k. take (span xs n) (drop k xs)) at.from
 
-  pub lent-room : b * 512 + 512 ≤ length (slice_range xs a e)
-  lent-room = omega (arith, ap length lent_is, part_length xs n i at.slot, at.block)
+  pub lent_room : b * 512 + 512 ≤ length (slice_range xs a e)
+  lent_room = omega (arith, ap length lent_is, part_length xs n i at.slot, at.block)
 
   pub back_is : (ys : List ℕ) → put_mid a (e - a) xs ys ≡ with_part xs n i ys
   back_is ys = ap (λ w. put_mid a w xs ys) width ∙ ap (λ k. put_mid k (span xs n) xs ys) at.from
 
-  pub handed-found : (old : List ℕ) → length old ≡ m → cut (slice_range xs a e) b ≡ slot_handed (shelf_meaning (shelved xs n)) i b old
-  handed-found old long =
+  pub handed_found : (old : List ℕ) → length old ≡ m → cut (slice_range xs a e) b ≡ slot_handed (shelf_meaning (shelved xs n)) i b old
+  handed_found old long =
       ap (λ p. cut p b) lent_is
-      ∙ sym (cond-true _ _ _ (lt-ltb i n at.slot) ∙ handed-ok (image_count (part xs n i)) (part xs n i) b at.low old (long ∙ at.sized))
+      ∙ sym (cond-true _ _ _ (lt-ltb i n at.slot) ∙ handed_ok (image_count (part xs n i)) (part xs n i) b at.low old (long ∙ at.sized))
 
   pub wrote_found : (v : List ℕ) → length v ≡ m
       → shelved (put_mid a (e - a) xs (pasted (slice_range xs a e) b v)) n ≡ shelf_wrote (shelved xs n) i b v
@@ -243,5 +243,5 @@ module _ (xs : List ℕ) (n i b m a e : ℕ) (at : Found xs n i b m a e) where
       ap (λ ys. shelved ys n)
       (back_is _
       ∙ ap (with_part xs n i)
-      (ap (λ p. pasted p b v) lent_is ∙ sym (wrote-ok (image_count (part xs n i)) (part xs n i) b at.low v (long ∙ at.sized))))
-      ∙ sym (wrote-here (shelved xs n) i b v at.slot)
+      (ap (λ p. pasted p b v) lent_is ∙ sym (wrote_ok (image_count (part xs n i)) (part xs n i) b at.low v (long ∙ at.sized))))
+      ∙ sym (wrote_here (shelved xs n) i b v at.slot)

@@ -54,19 +54,19 @@ pub record ReadDone (V : Shape) (M : Members) (F : Frontiers) (a : ℕ) (old new
   pub after : new ≡ read_leaves V M F a old
 
 module _ (V : Shape) (M : Members) (F : Frontiers) (a : ℕ) (old : List ℕ) where
-  refused-read : (e : Told) → Err e ≡ read_outcome V M F a (length old) → ReadDone V M F a old old (Err e)
-  refused-read e h = record { answered = h; after = sym (cond-false _ _ _ (sym (ap is_ok h))) }
+  refused_read : (e : Told) → Err e ≡ read_outcome V M F a (length old) → ReadDone V M F a old old (Err e)
+  refused_read e h = record { answered = h; after = sym (cond-false _ _ _ (sym (ap is_ok h))) }
 
   pub read_short : (length old ≡ block_size → ⊥) → ReadDone V M F a old old (Err (plain 3))
-  read_short n = refused-read (plain 3) (sym (cond-false _ _ _ (ne_eqb (length old) block_size n)))
+  read_short n = refused_read (plain 3) (sym (cond-false _ _ _ (ne_eqb (length old) block_size n)))
 
-  pub read-beyond : length old ≡ block_size → blocks V ≤ a → ReadDone V M F a old old (Err (plain 2))
-  read-beyond h l = refused-read (plain 2) (sym (cond-true _ _ _ (eq-eqb (length old) block_size h) ∙ cond-false _ _ _ (le-ltb a (blocks V) l)))
+  pub read_beyond : length old ≡ block_size → blocks V ≤ a → ReadDone V M F a old old (Err (plain 2))
+  read_beyond h l = refused_read (plain 2) (sym (cond-true _ _ _ (eq-eqb (length old) block_size h) ∙ cond-false _ _ _ (le-ltb a (blocks V) l)))
 
-  pub read-within : length old ≡ block_size → a < blocks V → (r : Result Unit Refusal) (new : List ℕ)
+  pub read_within : length old ≡ block_size → a < blocks V → (r : Result Unit Refusal) (new : List ℕ)
       → outcome r ≡ cond (read_lost V M F a) (Err (with_loss 4 (loss_at V M F (stripe_of V a)))) (Ok tt)
       → new ≡ cond (is_ok r) (recovered_at V M F (stripe_of V a) (column_of V a)) old → ReadDone V M F a old new (outcome r)
-  read-within h l r new e q =
+  read_within h l r new e q =
       let w : outcome r ≡ read_outcome V M F a (length old) = e ∙ sym (cond-true _ _ _ (eq-eqb (length old) block_size h) ∙ cond-true _ _ _ (lt-ltb a (blocks V) l)) in
       record { answered = w; after = q ∙ ap (λ (b : Bool). cond b (recovered_at V M F (stripe_of V a) (column_of V a)) old) (sym (ok_same r) ∙ ap is_ok w) }
 
@@ -83,24 +83,24 @@ pub record WriteDone (V : Shape) (M : Members) (F : Frontiers) (a : ℕ) (v : Li
 
 module _ (V : Shape) (M : Members) (F : Frontiers) (a : ℕ) (v : List ℕ) where
   -- a write that meets a check before that for loss
-  pub write-short : (length v ≡ block_size → ⊥) → WriteDone V M F a v M (Err (plain 3))
-  write-short n =
+  pub write_short : (length v ≡ block_size → ⊥) → WriteDone V M F a v M (Err (plain 3))
+  write_short n =
       let e = ne_eqb (length v) block_size n in
       record { answered = sym (cond-false _ _ _ e); changes = record { taken = λ t. absurd (false≢true (sym (and_left _ _ e) ∙ t)); refused = λ _. refl } }
 
-  pub write-beyond : length v ≡ block_size → blocks V ≤ a → WriteDone V M F a v M (Err (plain 2))
-  write-beyond h l =
+  pub write_beyond : length v ≡ block_size → blocks V ≤ a → WriteDone V M F a v M (Err (plain 2))
+  write_beyond h l =
       let e = le-ltb a (blocks V) l in
       record {
         answered = sym (cond-true _ _ _ (eq-eqb (length v) block_size h) ∙ cond-false _ _ _ e);
         changes = record { taken = λ t. absurd (false≢true (sym (and_right (eqb (length v) block_size) _ (and_left _ _ e)) ∙ t)); refused = λ _. refl };
       }
 
-  pub write-within : length v ≡ block_size → a < blocks V → (N : Members) (r : Result ℕ Refusal)
+  pub write_within : length v ≡ block_size → a < blocks V → (N : Members) (r : Result ℕ Refusal)
       → outcome r ≡ cond (lossy V M F (stripe_of V a)) (Err (with_loss 4 (loss_at V M F (stripe_of V a)))) (after_write V N F (stripe_of V a))
       → (lossy V M F (stripe_of V a) ≡ false → Spread V M F (stripe_of V a) (column_of V a) v N) → (lossy V M F (stripe_of V a) ≡ true → N ≡ M)
       → WriteDone V M F a v N (outcome r)
-  write-within h l N r e t f =
+  write_within h l N r e t f =
       let x = eq-eqb (length v) block_size h in
       let y = lt-ltb a (blocks V) l in
       let w : write_takes V M F a (length v) ≡ not (lossy V M F (stripe_of V a)) = both (eqb (length v) block_size) (ltb a (blocks V)) (not (lossy V M F (stripe_of V a))) x y in
@@ -122,15 +122,15 @@ pub record ScrubDone (V : Shape) (M : Members) (F : Frontiers) (s : ℕ) (N : Me
   pub changes : ScrubChanges V M F s N
 
 module _ (V : Shape) (M : Members) (F : Frontiers) (s : ℕ) where
-  pub scrub-beyond : V.stripes ≤ s → ScrubDone V M F s M (Err (plain 2))
-  scrub-beyond l =
+  pub scrub_beyond : V.stripes ≤ s → ScrubDone V M F s M (Err (plain 2))
+  scrub_beyond l =
       let e = le-ltb s V.stripes l in
       record { answered = sym (cond-false _ _ _ e); changes = record { taken = λ t. absurd (false≢true (sym (and_left _ _ e) ∙ t)); refused = λ _. refl } }
 
-  pub scrub-within : s < V.stripes → (N : Members) (r : Result (ℕ × ℕ × ℕ) Refusal)
+  pub scrub_within : s < V.stripes → (N : Members) (r : Result (ℕ × ℕ × ℕ) Refusal)
       → outcome r ≡ cond (lossy V M F s) (Err (with_loss 4 (loss_at V M F s))) (Ok (counted V M F s))
       → (lossy V M F s ≡ false → Scrubbed V M F s N) → (lossy V M F s ≡ true → N ≡ M) → ScrubDone V M F s N (outcome r)
-  scrub-within l N r e t f =
+  scrub_within l N r e t f =
       let y = lt-ltb s V.stripes l in
       let w : scrub_takes V M F s ≡ not (lossy V M F s) = ap (λ (b : Bool). b && not (lossy V M F s)) y in
       record {

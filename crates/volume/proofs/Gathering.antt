@@ -44,13 +44,13 @@ unadded w f o s h l = none w ∙ ap (λ (x : Option (List ℕ)). cond w (s ⊕ i
 
 -- what is recovered by a survey
 module _ (C : Coding) (k : ℕ) (cols : ℕ → Option (List ℕ)) (t : ℕ) (lost : Lost) (p : Bool) (v : Way) (hk : k ≤ C.limit) (el : lost ≡ noted (gaps cols k)) (ep : p ≡ is_some (cols k)) (ev : v ≡ way k (listed lost) p t) where
-  surveyed-way : v ≡ way k (gaps cols k) (is_some (cols k)) t
-  surveyed-way = ev ∙ ap (λ (x : Lost). way k (listed x) p t) el ∙ way_noted k (gaps cols k) p t ∙ ap (λ (x : Bool). way k (gaps cols k) x t) ep
+  surveyed_way : v ≡ way k (gaps cols k) (is_some (cols k)) t
+  surveyed_way = ev ∙ ap (λ (x : Lost). way k (listed x) p t) el ∙ way_noted k (gaps cols k) p t ∙ ap (λ (x : Bool). way k (gaps cols k) x t) ep
 
   pub rebuilt : (a b r : List ℕ) (ans : Result Unit CodeRefusal) → is_some (cols t) ≡ false → length a ≡ block_size → length b ≡ block_size
       → a ≡ cond (takes_plain v) (plain_sum k cols (k + 2)) zeros → b ≡ cond (takes_mixed v) (mixed_sum C k cols (k + 2)) zeros
       → answer ans ≡ on_way C.limit v (sized a && sized b) → r ≡ cond (is_ok ans) (by_way C v a b) a → r ≡ recovered C k cols t
   rebuilt a b r ans h la lb ea eb z er =
-      let n : named C.limit v ≡ true = ap (named C.limit) surveyed-way ∙ way_named C.limit cols k hk (gaps cols k) refl (is_some (cols k)) t in
+      let n : named C.limit v ≡ true = ap (named C.limit) surveyed_way ∙ way_named C.limit cols k hk (gaps cols k) refl (is_some (cols k)) t in
       let ok : is_ok ans ≡ true = taken_ok ans (z ∙ way_taken C.limit v _ n (good_two a b la lb)) in
-      found_is C k cols t v a b r h surveyed-way ea eb (er ∙ cond-true (is_ok ans) (by_way C v a b) a ok)
+      found_is C k cols t v a b r h surveyed_way ea eb (er ∙ cond-true (is_ok ans) (by_way C v a b) a ok)

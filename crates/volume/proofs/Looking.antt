@@ -11,7 +11,7 @@ use Rattle.bank.specs.Slots.{Slots, bank_refusal, no_slot, on_slot, slot_handed}
 use Rattle.contents.specs.Columns.{Frontiers, held, status}
 use Rattle.contents.specs.declared.Status.{Status}
 use Rattle.contents.specs.declared.Status.TheVariants as st
-use Rattle.contents.proofs.Statuses.{shown, held-is, status-is, status_by}
+use Rattle.contents.proofs.Statuses.{shown, held_is, status_is, status_by}
 use Rattle.volume.specs.Slots.{members_of, empty_member}
 
 -- a call is taken exactly where nothing is refused
@@ -20,17 +20,17 @@ ok_is (Ok u) = refl
 ok_is (Err f) = refl
 
 module _ (ms : Slots) (i : ℕ) where
-  pub members-here : i < ms.size → 0 < (ms.member i).count → members_of ms i ≡ ms.member i
+  pub members_here : i < ms.size → 0 < (ms.member i).count → members_of ms i ≡ ms.member i
   unfolding members_of
-  members-here l h = cond-true _ _ _ (and_from _ _ (lt-ltb i ms.size l) (lt-ltb 0 (ms.member i).count h))
+  members_here l h = cond-true _ _ _ (and_from _ _ (lt-ltb i ms.size l) (lt-ltb 0 (ms.member i).count h))
 
-  pub members-beyond : ms.size ≤ i → members_of ms i ≡ empty_member
+  pub members_beyond : ms.size ≤ i → members_of ms i ≡ empty_member
   unfolding members_of
-  members-beyond l = cond-false _ _ _ (and_left _ _ (le-ltb i ms.size l))
+  members_beyond l = cond-false _ _ _ (and_left _ _ (le-ltb i ms.size l))
 
-  pub members-empty : (ms.member i).count ≤ 0 → members_of ms i ≡ empty_member
+  pub members_empty : (ms.member i).count ≤ 0 → members_of ms i ≡ empty_member
   unfolding members_of
-  members-empty l = cond-false _ _ _ (and_right _ _ (le-ltb 0 (ms.member i).count l))
+  members_empty l = cond-false _ _ _ (and_right _ _ (le-ltb 0 (ms.member i).count l))
 
 -- by gone and the block
 abbrev pub seen_by : Bool → Option (List ℕ) → Option (List ℕ)
@@ -53,34 +53,34 @@ seen_none false = refl
 
 module _ (ms : Slots) (sound : (i : ℕ) → i < ms.size → Sound (ms.member i)) (i b : ℕ) where
   -- beyond its count a member shows nothing
-  nothing-beyond : i < ms.size → (ms.member i).count ≤ b → seen_by (members_of ms i).gone ((members_of ms i).block b) ≡ None
-  nothing-beyond li lb =
+  nothing_beyond : i < ms.size → (ms.member i).count ≤ b → seen_by (members_of ms i).gone ((members_of ms i).block b) ≡ None
+  nothing_beyond li lb =
       ⊎_elim
       (λ (z : ltb 0 (ms.member i).count ≡ true).
-      let h = members-here ms i li (ltb-true 0 (ms.member i).count z) in
+      let h = members_here ms i li (ltb-true 0 (ms.member i).count z) in
       ap (λ (m : Meaning). seen_by m.gone (m.block b)) h ∙ ap (λ (o : Option (List ℕ)). seen_by (ms.member i).gone o) ((sound i li).beyond b lb) ∙ seen_none (ms.member i).gone)
       (λ (z : ltb 0 (ms.member i).count ≡ false).
-      ap (λ (m : Meaning). seen_by m.gone (m.block b)) (members-empty ms i (ltb-false 0 (ms.member i).count z)))
+      ap (λ (m : Meaning). seen_by m.gone (m.block b)) (members_empty ms i (ltb-false 0 (ms.member i).count z)))
       (cases_Bool (ltb 0 (ms.member i).count))
 
   -- a look is refused exactly where the member is gone or the block is unreadable
-  pub look-tells : is_some (on_slot ms i b (λ m. look_refusal m b)) ≡ not (is_some (seen_by (members_of ms i).gone ((members_of ms i).block b)))
-  look-tells =
+  pub look_tells : is_some (on_slot ms i b (λ m. look_refusal m b)) ≡ not (is_some (seen_by (members_of ms i).gone ((members_of ms i).block b)))
+  look_tells =
       ⊎_elim
       (λ (e : ltb i ms.size ≡ true).
       ⊎_elim
       (λ (l : ltb b (ms.member i).count ≡ true).
       let lb = ltb-true b (ms.member i).count l in
-      let h = members-here ms i (ltb-true i ms.size e) (omega arith) in
+      let h = members_here ms i (ltb-true i ms.size e) (omega arith) in
       ap is_some (cond-true _ _ _ e ∙ cond-true _ _ _ l)
       ∙ some_by (ms.member i).gone ((ms.member i).block b) ((ms.member i).gone_origin b) ((ms.member i).unreadable_origin b)
       ∙ ap (λ (m : Meaning). not (is_some (seen_by m.gone (m.block b)))) (sym h))
       (λ (l : ltb b (ms.member i).count ≡ false).
-      let n : seen_by (members_of ms i).gone ((members_of ms i).block b) ≡ None = nothing-beyond (ltb-true i ms.size e) (ltb-false b (ms.member i).count l) in
+      let n : seen_by (members_of ms i).gone ((members_of ms i).block b) ≡ None = nothing_beyond (ltb-true i ms.size e) (ltb-false b (ms.member i).count l) in
       ap is_some (cond-true _ _ _ e ∙ cond-false _ _ _ l) ∙ sym (ap (λ (o : Option (List ℕ)). not (is_some o)) n))
       (cases_Bool (ltb b (ms.member i).count)))
       (λ (e : ltb i ms.size ≡ false).
-      let h = members-beyond ms i (ltb-false i ms.size e) in
+      let h = members_beyond ms i (ltb-false i ms.size e) in
       ap is_some (cond-false _ _ _ e) ∙ ap (λ (m : Meaning). not (is_some (seen_by m.gone (m.block b)))) (sym h))
       (cases_Bool (ltb i ms.size))
 
@@ -91,15 +91,15 @@ gone_tells ms i =
     (λ (e : ltb i ms.size ≡ true).
     ⊎_elim
     (λ (l : ltb 0 (ms.member i).count ≡ true).
-    let h = members-here ms i (ltb-true i ms.size e) (ltb-true 0 (ms.member i).count l) in
+    let h = members_here ms i (ltb-true i ms.size e) (ltb-true 0 (ms.member i).count l) in
     ap (refused_with 1) (cond-true _ _ _ e ∙ cond-true _ _ _ l)
     ∙ gone_by (ms.member i).gone ((ms.member i).block 0) ((ms.member i).gone_origin 0) ((ms.member i).unreadable_origin 0)
     ∙ ap (λ (m : Meaning). m.gone) (sym h))
     (λ (l : ltb 0 (ms.member i).count ≡ false).
-    ap (refused_with 1) (cond-true _ _ _ e ∙ cond-false _ _ _ l) ∙ ap (λ (m : Meaning). m.gone) (sym (members-empty ms i (ltb-false 0 (ms.member i).count l))))
+    ap (refused_with 1) (cond-true _ _ _ e ∙ cond-false _ _ _ l) ∙ ap (λ (m : Meaning). m.gone) (sym (members_empty ms i (ltb-false 0 (ms.member i).count l))))
     (cases_Bool (ltb 0 (ms.member i).count)))
     (λ (e : ltb i ms.size ≡ false).
-    ap (refused_with 1) (cond-false _ _ _ e) ∙ ap (λ (m : Meaning). m.gone) (sym (members-beyond ms i (ltb-false i ms.size e))))
+    ap (refused_with 1) (cond-false _ _ _ e) ∙ ap (λ (m : Meaning). m.gone) (sym (members_beyond ms i (ltb-false i ms.size e))))
     (cases_Bool (ltb i ms.size))
 
 -- ---- a column's status, by whether its block could be read
@@ -114,40 +114,40 @@ present_status r false true o e h = ap (λ (x : Bool). cond x st.Current st.Unre
 present_status r false false o e h = refl
 
 module _ (ms : Slots) (F : Frontiers) (s i : ℕ) (r : Bool) (e : r ≡ is_some (seen_by (members_of ms i).gone ((members_of ms i).block s))) where
-  pub told-gone : r ≡ false → (members_of ms i).gone ≡ true → st.Gone ≡ status (members_of ms) F s i
-  told-gone f h = gone_status r (members_of ms i).gone (ltb s (F i)) ((members_of ms i).block s) e f h ∙ sym (status-is (members_of ms) F s i)
+  pub told_gone : r ≡ false → (members_of ms i).gone ≡ true → st.Gone ≡ status (members_of ms) F s i
+  told_gone f h = gone_status r (members_of ms i).gone (ltb s (F i)) ((members_of ms i).block s) e f h ∙ sym (status_is (members_of ms) F s i)
 
-  pub told-present : (b : Bool) → b ≡ ltb s (F i) → (r ≡ false → (members_of ms i).gone ≡ false) → cond b (cond r st.Current st.Unreadable) st.Behind ≡ status (members_of ms) F s i
-  told-present b q h =
+  pub told_present : (b : Bool) → b ≡ ltb s (F i) → (r ≡ false → (members_of ms i).gone ≡ false) → cond b (cond r st.Current st.Unreadable) st.Behind ≡ status (members_of ms) F s i
+  told_present b q h =
       ap (λ (x : Bool). cond x (cond r st.Current st.Unreadable) st.Behind) q
-      ∙ present_status r (members_of ms i).gone (ltb s (F i)) ((members_of ms i).block s) e h ∙ sym (status-is (members_of ms) F s i)
+      ∙ present_status r (members_of ms i).gone (ltb s (F i)) ((members_of ms i).block s) e h ∙ sym (status_is (members_of ms) F s i)
 
 -- what a look that was taken, or refused, tells
 pub seen_told : (ms : Slots) (sound : (i : ℕ) → i < ms.size → Sound (ms.member i)) (i b : ℕ) (r : Result Unit BankFault) (ok : Bool)
     → bank_refusal r ≡ on_slot ms i b (λ m. look_refusal m b) → ok ≡ is_ok r → ok ≡ is_some (seen_by (members_of ms i).gone ((members_of ms i).block b))
-seen_told ms sound i b r ok e q = q ∙ ok_is r ∙ ap (λ (o : Option Refusal). not (is_some o)) e ∙ ap not (look-tells ms sound i b) ∙ not-not (is_some (seen_by (members_of ms i).gone ((members_of ms i).block b)))
+seen_told ms sound i b r ok e q = q ∙ ok_is r ∙ ap (λ (o : Option Refusal). not (is_some o)) e ∙ ap not (look_tells ms sound i b) ∙ not_not (is_some (seen_by (members_of ms i).gone ((members_of ms i).block b)))
   where
-    not-not : (b : Bool) → not (not b) ≡ b
-    not-not true = refl
-    not-not false = refl
+    not_not : (b : Bool) → not (not b) ≡ b
+    not_not true = refl
+    not_not false = refl
 
 -- ---- a read of a block below the frontier
 -- what is held is what can be seen
 below_held : (ms : Slots) (F : Frontiers) (s i : ℕ) → ltb s (F i) ≡ true → held (members_of ms) F s i ≡ seen_by (members_of ms i).gone ((members_of ms i).block s)
-below_held ms F s i e = held-is (members_of ms) F s i ∙ shown-below (members_of ms i).gone (ltb s (F i)) ((members_of ms i).block s) e
+below_held ms F s i e = held_is (members_of ms) F s i ∙ shown_below (members_of ms i).gone (ltb s (F i)) ((members_of ms i).block s) e
   where
-    shown-below : (g b : Bool) (o : Option (List ℕ)) → b ≡ true → shown g b o ≡ seen_by g o
-    shown-below true b o e = refl
-    shown-below false true o e = refl
-    shown-below false false o e = absurd (false≢true e)
+    shown_below : (g b : Bool) (o : Option (List ℕ)) → b ≡ true → shown g b o ≡ seen_by g o
+    shown_below true b o e = refl
+    shown_below false true o e = refl
+    shown_below false false o e = absurd (false≢true e)
 
 pub behind_held : (ms : Slots) (F : Frontiers) (s i : ℕ) → ltb s (F i) ≡ false → held (members_of ms) F s i ≡ None
-behind_held ms F s i e = held-is (members_of ms) F s i ∙ shown-behind (members_of ms i).gone (ltb s (F i)) ((members_of ms i).block s) e
+behind_held ms F s i e = held_is (members_of ms) F s i ∙ shown_behind (members_of ms i).gone (ltb s (F i)) ((members_of ms i).block s) e
   where
-    shown-behind : (g b : Bool) (o : Option (List ℕ)) → b ≡ false → shown g b o ≡ None
-    shown-behind true b o e = refl
-    shown-behind false true o e = absurd (true≢false e)
-    shown-behind false false o e = refl
+    shown_behind : (g b : Bool) (o : Option (List ℕ)) → b ≡ false → shown g b o ≡ None
+    shown_behind true b o e = refl
+    shown_behind false true o e = absurd (true≢false e)
+    shown_behind false false o e = refl
 
 read_is_look : (m : Meaning) (b n : ℕ) → n ≡ block_size → read_refusal m b n ≡ look_refusal m b
 read_is_look m b n e = cond-true _ _ _ (eq-eqb n block_size e)
@@ -165,8 +165,8 @@ handed_by false true (Some v) x y z old = refl
 
 module _ (ms : Slots) (sound : (i : ℕ) → i < ms.size → Sound (ms.member i)) (i s : ℕ) (old : List ℕ) (sized : length old ≡ block_size) where
   -- what a read leaves is what can be seen, or what the buffer held
-  handed-is : slot_handed ms i s old ≡ or_else (seen_by (members_of ms i).gone ((members_of ms i).block s)) old
-  handed-is =
+  handed_is : slot_handed ms i s old ≡ or_else (seen_by (members_of ms i).gone ((members_of ms i).block s)) old
+  handed_is =
       ⊎_elim
       (λ (e : ltb i ms.size ≡ true).
       let m = ms.member i in
@@ -175,7 +175,7 @@ module _ (ms : Slots) (sound : (i : ℕ) → i < ms.size → Sound (ms.member i)
       ∙ handed_by m.gone (ltb s m.count) (m.block s) (m.gone_origin s) (m.unreadable_origin s) _ old
       ∙ ap (λ (o : Option (List ℕ)). or_else o old) (here (ltb-true i ms.size e)))
       (λ (e : ltb i ms.size ≡ false).
-      cond-false _ _ _ e ∙ ap (λ (m : Meaning). or_else (seen_by m.gone (m.block s)) old) (sym (members-beyond ms i (ltb-false i ms.size e))))
+      cond-false _ _ _ e ∙ ap (λ (m : Meaning). or_else (seen_by m.gone (m.block s)) old) (sym (members_beyond ms i (ltb-false i ms.size e))))
       (cases_Bool (ltb i ms.size))
     where
       here : i < ms.size → cond (ltb s (ms.member i).count) (seen_by (ms.member i).gone ((ms.member i).block s)) None ≡ seen_by (members_of ms i).gone ((members_of ms i).block s)
@@ -183,14 +183,14 @@ module _ (ms : Slots) (sound : (i : ℕ) → i < ms.size → Sound (ms.member i)
           ⊎_elim
           (λ (l : ltb s (ms.member i).count ≡ true).
           let lb = ltb-true s (ms.member i).count l in
-          cond-true _ _ _ l ∙ ap (λ (m : Meaning). seen_by m.gone (m.block s)) (sym (members-here ms i li (omega arith))))
+          cond-true _ _ _ l ∙ ap (λ (m : Meaning). seen_by m.gone (m.block s)) (sym (members_here ms i li (omega arith))))
           (λ (l : ltb s (ms.member i).count ≡ false).
-          cond-false _ _ _ l ∙ sym (nothing-beyond ms sound i s li (ltb-false s (ms.member i).count l)))
+          cond-false _ _ _ l ∙ sym (nothing_beyond ms sound i s li (ltb-false s (ms.member i).count l)))
           (cases_Bool (ltb s (ms.member i).count))
 
   module _ (F : Frontiers) (below : ltb s (F i) ≡ true) (new : List ℕ) (r : Result Unit BankFault) (ok : Bool) (answered : bank_refusal r ≡ on_slot ms i s (λ m. read_refusal m s (length old))) (is : ok ≡ is_ok r) (left : new ≡ slot_handed ms i s old) where
-    pub load-current : ok ≡ is_some (held (members_of ms) F s i)
-    load-current = seen_told ms sound i s r ok (answered ∙ slot_read_is_look ms i s (length old) sized) is ∙ ap is_some (sym (below_held ms F s i below))
+    pub load_current : ok ≡ is_some (held (members_of ms) F s i)
+    load_current = seen_told ms sound i s r ok (answered ∙ slot_read_is_look ms i s (length old) sized) is ∙ ap is_some (sym (below_held ms F s i below))
 
     pub load_after : new ≡ or_else (held (members_of ms) F s i) old
-    load_after = left ∙ handed-is ∙ ap (λ (o : Option (List ℕ)). or_else o old) (sym (below_held ms F s i below))
+    load_after = left ∙ handed_is ∙ ap (λ (o : Option (List ℕ)). or_else o old) (sym (below_held ms F s i below))

@@ -19,10 +19,10 @@ use Rattle.contents.specs.Records.{Records, frontiers, is_open, idle_at, open_at
 use Rattle.contents.specs.Shapes.{Shape, Roomy, lossy, loss_at, recovered_at}
 use Rattle.contents.specs.Changes.{Moved}
 use Rattle.contents.specs.Rebuilds.{event_outcome, event_records, open_here, rebuilt, step_outcome, step_takes, StepChanges}
-use Rattle.contents.proofs.Statuses.{shown, held-is}
+use Rattle.contents.proofs.Statuses.{shown, held_is}
 use Rattle.volume.specs.Slots.{members_of, empty_member, records_of}
-use Rattle.volume.proofs.Looking.{members-here, members-beyond, members-empty}
-use Rattle.volume.proofs.Walking.{moved-of}
+use Rattle.volume.proofs.Looking.{members_here, members_beyond, members_empty}
+use Rattle.volume.proofs.Walking.{moved_of}
 
 -- ---- one record of a table
 pub row_placed : (rows : List SlotRecord) (i : ℕ) (x : SlotRecord) → i < length rows → records_of (set rows i x) ≡ with_record (records_of rows) i x
@@ -51,7 +51,7 @@ answering_err {U} {W} w r t e = ap (answering {U = U} {W = W} w) e
 
 -- ---- members
 pub renewed_moved : (ms ns : Slots) (i : ℕ) → Changed Renewed ms i ns → Moved Renewed i (members_of ms) (members_of ns)
-renewed_moved = moved-of Renewed (record { level = record { count = refl; height = refl }; present = refl }) (λ m n t. t.level.count)
+renewed_moved = moved_of Renewed (record { level = record { count = refl; height = refl }; present = refl }) (λ m n t. t.level.count)
 
 -- what a member with blocks refuses is what its bank refuses
 pub write_told : (ms : Slots) (i s n : ℕ) → 0 < (members_of ms i).count → on_slot ms i s (λ m. write_refusal m s n) ≡ write_refusal (members_of ms i) s n
@@ -59,15 +59,15 @@ write_told ms i s n l =
     ⊎_elim
     (λ (a : i < ms.size).
     ⊎_elim
-    (λ (p : 0 < (ms.member i).count). cond-true _ _ _ (lt-ltb i ms.size a) ∙ ap (λ (m : Meaning). write_refusal m s n) (sym (members-here ms i a p)))
-    (λ (p : (ms.member i).count ≤ 0). absurd (let e = ap (λ (m : Meaning). m.count) (members-empty ms i p) in omega (arith, e)))
+    (λ (p : 0 < (ms.member i).count). cond-true _ _ _ (lt-ltb i ms.size a) ∙ ap (λ (m : Meaning). write_refusal m s n) (sym (members_here ms i a p)))
+    (λ (p : (ms.member i).count ≤ 0). absurd (let e = ap (λ (m : Meaning). m.count) (members_empty ms i p) in omega (arith, e)))
     (cases_lt 0 (ms.member i).count))
-    (λ (a : ms.size ≤ i). absurd (let e = ap (λ (m : Meaning). m.count) (members-beyond ms i a) in omega (arith, e)))
+    (λ (a : ms.size ≤ i). absurd (let e = ap (λ (m : Meaning). m.count) (members_beyond ms i a) in omega (arith, e)))
     (cases_lt i ms.size)
 
 -- a column at or beyond its slot's frontier is missing
 pub behind_missing : (M : Members) (F : Frontiers) (s i j : ℕ) → j ≡ i → F i ≤ s → is_some (held M F s j) ≡ false
-behind_missing M F s i j e l = ap (λ (x : ℕ). is_some (held M F s x)) e ∙ ap is_some (held-is M F s i) ∙ none (M i).gone (ltb s (F i)) ((M i).block s) (le-ltb s (F i) l)
+behind_missing M F s i j e l = ap (λ (x : ℕ). is_some (held M F s x)) e ∙ ap is_some (held_is M F s i) ∙ none (M i).gone (ltb s (F i)) ((M i).block s) (le-ltb s (F i) l)
   where
     none : (g b : Bool) (o : Option (List ℕ)) → b ≡ false → is_some (shown g b o) ≡ false
     none true b o h = refl
@@ -88,13 +88,13 @@ pub record StepDone (V : Shape) (M : Members) (R : Records) (i : ℕ) (N : Membe
 
 module _ (V : Shape) (M : Members) (R : Records) (i : ℕ) where
   -- a step that meets a check before that for loss
-  pub step-closed : open_here V R i ≡ false → StepDone V M R i M R (Err (plain 8))
-  step-closed e =
+  pub step_closed : open_here V R i ≡ false → StepDone V M R i M R (Err (plain 8))
+  step_closed e =
       let a = sym (cond-false _ _ _ e) in
       record { answered = a; changes = record { taken = λ t. absurd (false≢true (sym e ∙ (and_parts (open_here V R i) _ t).0)); refused = λ _. refl; records = sym (cond-false _ _ _ (sym (ap is_ok a))) } }
 
-  pub step-whole : open_here V R i ≡ true → V.stripes ≤ (R i).frontier → StepDone V M R i M R (Err (plain 7))
-  step-whole e l =
+  pub step_whole : open_here V R i ≡ true → V.stripes ≤ (R i).frontier → StepDone V M R i M R (Err (plain 7))
+  step_whole e l =
       let b = le-ltb (R i).frontier V.stripes l in
       let a = sym (cond-true _ _ _ e ∙ cond-false _ _ _ b) in
       record {
@@ -117,48 +117,48 @@ module _ (V : Shape) (M : Members) (R : Records) (i : ℕ) where
     abbrev after : Result Unit Told
     after = cond lost (Err (with_loss 4 (loss_at V M (frontiers R) (R i).frontier))) (column_answer (write_refusal (M i) (R i).frontier block_size) (R i).frontier)
 
-    takes-is : step_takes V M R i ≡ not lost
-    takes-is = ap₂ (λ (a b : Bool). a && (b && not lost)) eo (lt-ltb (R i).frontier V.stripes lf)
+    takes_is : step_takes V M R i ≡ not lost
+    takes_is = ap₂ (λ (a b : Bool). a && (b && not lost)) eo (lt-ltb (R i).frontier V.stripes lf)
 
-    outcome-is : step_outcome V M R i ≡ cond lost (Err (with_loss 4 (loss_at V M (frontiers R) (R i).frontier))) (rebuilt (write_refusal (M i) (R i).frontier block_size) (R i).frontier)
-    outcome-is = cond-true _ _ _ eo ∙ cond-true _ _ _ (lt-ltb (R i).frontier V.stripes lf)
+    outcome_is : step_outcome V M R i ≡ cond lost (Err (with_loss 4 (loss_at V M (frontiers R) (R i).frontier))) (rebuilt (write_refusal (M i) (R i).frontier block_size) (R i).frontier)
+    outcome_is = cond-true _ _ _ eo ∙ cond-true _ _ _ (lt-ltb (R i).frontier V.stripes lf)
 
     changed : (Q : Records) → Q ≡ cond (is_ok (step_outcome V M R i)) (event_records V R i Stepped) R → StepChanges V M R i N Q
-    changed Q q = record { taken = λ t. moved (not-true _ (sym takes-is ∙ t)); refused = λ t. left (not-false _ (sym takes-is ∙ t)); records = q }
+    changed Q q = record { taken = λ t. moved (not-true _ (sym takes_is ∙ t)); refused = λ t. left (not-false _ (sym takes_is ∙ t)); records = q }
 
-    err-by : (b : Bool) (t u : Told) (o : Option Refusal) (f : ℕ) → ◌≡◌ {A = Result Unit Told} (Err u) (cond b (Err t) (column_answer o f)) → ◌≡◌ {A = Result ℕ Told} (Err u) (cond b (Err t) (rebuilt o f))
-    err-by true t u o f e = let d : u ≡ t = cc in ap Err d
-    err-by false t u None f e = absurd (let z : ◌≡◌ {A = ℕ} 0 1 = cc in omega arith)
-    err-by false t u (Some x) f e = let d : u ≡ with_fault 9 x = cc in ap Err d
+    err_by : (b : Bool) (t u : Told) (o : Option Refusal) (f : ℕ) → ◌≡◌ {A = Result Unit Told} (Err u) (cond b (Err t) (column_answer o f)) → ◌≡◌ {A = Result ℕ Told} (Err u) (cond b (Err t) (rebuilt o f))
+    err_by true t u o f e = let d : u ≡ t = cc in ap Err d
+    err_by false t u None f e = absurd (let z : ◌≡◌ {A = ℕ} 0 1 = cc in omega arith)
+    err_by false t u (Some x) f e = let d : u ≡ with_fault 9 x = cc in ap Err d
 
-    ok-by : (b : Bool) (t : Told) (o : Option Refusal) (f : ℕ) → ◌≡◌ {A = Result Unit Told} (Ok tt) (cond b (Err t) (column_answer o f)) → ◌≡◌ {A = Result ℕ Told} (Ok (f + 1)) (cond b (Err t) (rebuilt o f))
-    ok-by true t o f e = absurd (let z : ◌≡◌ {A = ℕ} 0 1 = cc in omega arith)
-    ok-by false t None f e = refl
-    ok-by false t (Some x) f e = absurd (let z : ◌≡◌ {A = ℕ} 0 1 = cc in omega arith)
+    ok_by : (b : Bool) (t : Told) (o : Option Refusal) (f : ℕ) → ◌≡◌ {A = Result Unit Told} (Ok tt) (cond b (Err t) (column_answer o f)) → ◌≡◌ {A = Result ℕ Told} (Ok (f + 1)) (cond b (Err t) (rebuilt o f))
+    ok_by true t o f e = absurd (let z : ◌≡◌ {A = ℕ} 0 1 = cc in omega arith)
+    ok_by false t None f e = refl
+    ok_by false t (Some x) f e = absurd (let z : ◌≡◌ {A = ℕ} 0 1 = cc in omega arith)
 
     -- the column was not written, or the member refused it
-    pub step-failed : (t : Told) → Err t ≡ after → StepDone V M R i N R (Err t)
-    step-failed t e =
-        let a : Err t ≡ step_outcome V M R i = err-by lost _ t (write_refusal (M i) (R i).frontier block_size) (R i).frontier e ∙ sym outcome-is in
+    pub step_failed : (t : Told) → Err t ≡ after → StepDone V M R i N R (Err t)
+    step_failed t e =
+        let a : Err t ≡ step_outcome V M R i = err_by lost _ t (write_refusal (M i) (R i).frontier block_size) (R i).frontier e ∙ sym outcome_is in
         record { answered = a; changes = changed R (sym (cond-false _ _ _ (sym (ap is_ok a)))) }
 
-    state-open : (x : SlotState) → is_open x ≡ true → x ≡ Open
-    state-open Idle e = absurd (false≢true e)
-    state-open Open e = refl
+    state_open : (x : SlotState) → is_open x ≡ true → x ≡ Open
+    state_open Idle e = absurd (false≢true e)
+    state_open Open e = refl
 
     opened : (R i).state ≡ Open
-    opened = state-open (R i).state (and_parts (ltb i V.slots) (is_open (R i).state) eo).1
+    opened = state_open (R i).state (and_parts (ltb i V.slots) (is_open (R i).state) eo).1
 
-    answer-is : slot_answer V.stripes (R i) Stepped ≡ Ok ((R i).frontier + 1)
-    answer-is = ap (λ (x : SlotState). answer_by V.stripes x (R i).frontier Stepped) opened ∙ cond-true _ _ _ (lt-ltb (R i).frontier V.stripes lf)
+    answer_is : slot_answer V.stripes (R i) Stepped ≡ Ok ((R i).frontier + 1)
+    answer_is = ap (λ (x : SlotState). answer_by V.stripes x (R i).frontier Stepped) opened ∙ cond-true _ _ _ (lt-ltb (R i).frontier V.stripes lf)
 
     -- the member took it
-    pub step-made : Ok tt ≡ after → (Q : Records) (r : Result ℕ Told) → Q ≡ with_record R i (slot_after V.stripes (R i) Stepped) → r ≡ slot_answer V.stripes (R i) Stepped
+    pub step_made : Ok tt ≡ after → (Q : Records) (r : Result ℕ Told) → Q ≡ with_record R i (slot_after V.stripes (R i) Stepped) → r ≡ slot_answer V.stripes (R i) Stepped
         → StepDone V M R i N Q r
-    step-made e Q r q s =
-        let a : Ok ((R i).frontier + 1) ≡ step_outcome V M R i = ok-by lost _ (write_refusal (M i) (R i).frontier block_size) (R i).frontier e ∙ sym outcome-is in
+    step_made e Q r q s =
+        let a : Ok ((R i).frontier + 1) ≡ step_outcome V M R i = ok_by lost _ (write_refusal (M i) (R i).frontier block_size) (R i).frontier e ∙ sym outcome_is in
         let li = (and_parts (ltb i V.slots) (is_open (R i).state) eo).0 in
-        record { answered = s ∙ answer-is ∙ a; changes = changed Q (q ∙ sym (cond-true _ _ _ li) ∙ sym (cond-true _ _ _ (sym (ap is_ok a)))) }
+        record { answered = s ∙ answer_is ∙ a; changes = changed Q (q ∙ sym (cond-true _ _ _ li) ∙ sym (cond-true _ _ _ (sym (ap is_ok a)))) }
 
 -- ---- the record of an open slot
 pub open_some : (b : Bool) (f s : ℕ) → Some s ≡ cond b (Some f) None → (b ≡ true) × (f ≡ s)

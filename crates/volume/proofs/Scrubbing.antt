@@ -12,13 +12,13 @@ use Rattle.contents.specs.declared.Status.TheVariants as st
 use Rattle.contents.specs.Columns.{Members, Frontiers, status, held, is_current, is_unreadable, is_absent, count}
 use Rattle.contents.specs.Changes.{Moved, Steps, Put}
 use Rattle.contents.specs.Answers.{takes}
-use Rattle.contents.proofs.Statuses.{current-is}
+use Rattle.contents.proofs.Statuses.{current_is}
 use Rattle.contents.proofs.Masks.{count_none, count_more, count_le}
-use Rattle.contents.proofs.Walks.{steps_none, steps_more, walk-rest}
+use Rattle.contents.proofs.Walks.{steps_none, steps_more, walk_rest}
 use Rattle.volume.specs.declared.survey.Tally.{Tally}
 use Rattle.volume.specs.Slots.{members_of, empty_member}
 use Rattle.volume.specs.Tallies.{tally_of, with_standing, with_mend}
-use Rattle.volume.proofs.Looking.{ok_is, members-here, members-beyond, members-empty}
+use Rattle.volume.proofs.Looking.{ok_is, members_here, members_beyond, members_empty}
 
 not_current : (x : Status) → is_unreadable x ≡ true → is_current x ≡ false
 not_current st.Current e = absurd (false≢true e)
@@ -34,29 +34,29 @@ not_absent st.Unreadable e = refl
 
 -- an unreadable column is missing
 pub unreadable_missing : (M : Members) (F : Frontiers) (s i j : ℕ) → j ≡ i → is_unreadable (status M F s i) ≡ true → is_some (held M F s j) ≡ false
-unreadable_missing M F s i j e u = ap (λ (x : ℕ). is_some (held M F s x)) e ∙ current-is M F s i ∙ not_current (status M F s i) u
+unreadable_missing M F s i j e u = ap (λ (x : ℕ). is_some (held M F s x)) e ∙ current_is M F s i ∙ not_current (status M F s i) u
 
 -- ---- the members
 module _ (M : Members) (F : Frontiers) (s : ℕ) (col : ℕ → List ℕ) where
   abbrev pub mends : ℕ → Members → Members → Type 0
   mends j = Moved (Put (is_unreadable (status M F s j)) s (col j)) j
 
-  pub scrub-none : (i : ℕ) → i ≡ 0 → Steps i mends M M
-  scrub-none i e = subst (λ (x : ℕ). Steps x mends M M) (sym e) (steps_none mends M)
+  pub scrub_none : (i : ℕ) → i ≡ 0 → Steps i mends M M
+  scrub_none i e = subst (λ (x : ℕ). Steps x mends M M) (sym e) (steps_none mends M)
 
   -- a slot that needs no writing
-  pub scrub-skip : (i j : ℕ) (N : Members) → i ≡ j + 1 → Steps j mends M N → is_unreadable (status M F s j) ≡ false → Steps i mends M N
-  scrub-skip i j N e w u = subst (λ (x : ℕ). Steps x mends M N) (sym e)
+  pub scrub_skip : (i j : ℕ) (N : Members) → i ≡ j + 1 → Steps j mends M N → is_unreadable (status M F s j) ≡ false → Steps i mends M N
+  scrub_skip i j N e w u = subst (λ (x : ℕ). Steps x mends M N) (sym e)
       (steps_more mends j M N N w (record { here = record { written = λ d. absurd (true≢false (sym d ∙ u)); kept = λ _. refl }; others = λ k ne. refl }))
 
   -- one that was written
-  pub scrub-write : (i j : ℕ) (N O : Members) → i ≡ j + 1 → Steps j mends M N → is_unreadable (status M F s j) ≡ true → Moved (λ m n. Written m s (col j) n) j N O → Steps i mends M O
-  scrub-write i j N O e w u h = subst (λ (x : ℕ). Steps x mends M O) (sym e)
+  pub scrub_write : (i j : ℕ) (N O : Members) → i ≡ j + 1 → Steps j mends M N → is_unreadable (status M F s j) ≡ true → Moved (λ m n. Written m s (col j) n) j N O → Steps i mends M O
+  scrub_write i j N O e w u h = subst (λ (x : ℕ). Steps x mends M O) (sym e)
       (steps_more mends j M N O w (record { here = record { written = λ _. h.here; kept = λ d. absurd (true≢false (sym u ∙ d)) }; others = h.others }))
 
   -- no slot was written before its turn
   pub not_yet : (j : ℕ) (N : Members) → Steps j mends M N → N j ≡ M j
-  not_yet j N w = walk-rest j (λ x. Put (is_unreadable (status M F s x)) s (col x)) M N w j (omega arith)
+  not_yet j N w = walk_rest j (λ x. Put (is_unreadable (status M F s x)) s (col x)) M N w j (omega arith)
 
 -- ---- what a write to a slot answers
 both_some : (o : Option Refusal) (f : Refusal) (p : Option Refusal) (g : Refusal) → o ≡ Some f → p ≡ Some g → is_some o ≡ is_some p
@@ -68,14 +68,14 @@ write_tells ms i s =
     (λ (l : i < ms.size).
     ⊎_elim
     (λ (p : 0 < (ms.member i).count).
-    ap is_some (cond-true _ _ _ (lt-ltb i ms.size l)) ∙ ap (λ (m : Meaning). is_some (write_refusal m s block_size)) (sym (members-here ms i l p)))
+    ap is_some (cond-true _ _ _ (lt-ltb i ms.size l)) ∙ ap (λ (m : Meaning). is_some (write_refusal m s block_size)) (sym (members_here ms i l p)))
     (λ (p : (ms.member i).count ≤ 0).
     both_some _ _ _ _ (cond-true _ _ _ (lt-ltb i ms.size l) ∙ cond-false _ _ _ (le-ltb s (ms.member i).count (omega arith)))
-    (ap (λ (m : Meaning). write_refusal m s block_size) (members-empty ms i p) ∙ cond-false _ _ _ (le-ltb s 0 (omega arith))))
+    (ap (λ (m : Meaning). write_refusal m s block_size) (members_empty ms i p) ∙ cond-false _ _ _ (le-ltb s 0 (omega arith))))
     (cases_lt 0 (ms.member i).count))
     (λ (l : ms.size ≤ i).
     both_some _ _ _ _ (cond-false _ _ _ (le-ltb i ms.size l))
-    (ap (λ (m : Meaning). write_refusal m s block_size) (members-beyond ms i l) ∙ cond-false _ _ _ (le-ltb s 0 (omega arith))))
+    (ap (λ (m : Meaning). write_refusal m s block_size) (members_beyond ms i l) ∙ cond-false _ _ _ (le-ltb s 0 (omega arith))))
     (cases_lt i ms.size)
 
 pub write_takes_is : (ms : Slots) (i s n : ℕ) (m : Meaning) (r : Result Unit BankFault) (ok : Bool) → n ≡ block_size → members_of ms i ≡ m
@@ -100,11 +100,11 @@ flip true = refl
 flip false = refl
 
 module _ (M : Members) (F : Frontiers) (s : ℕ) where
-  pub tally-none : (i : ℕ) → i ≡ 0 → record { mended = 0; refused = 0; absent = 0 } ≡ tally_of M F s i
-  tally-none i e = subst (λ (x : ℕ). record { mended = 0; refused = 0; absent = 0 } ≡ tally_of M F s x) (sym e) (same_tally _ _ _ _ _ _ (sym (count_none _)) (sym (count_none _)) (sym (count_none _)))
+  pub tally_none : (i : ℕ) → i ≡ 0 → record { mended = 0; refused = 0; absent = 0 } ≡ tally_of M F s i
+  tally_none i e = subst (λ (x : ℕ). record { mended = 0; refused = 0; absent = 0 } ≡ tally_of M F s x) (sym e) (same_tally _ _ _ _ _ _ (sym (count_none _)) (sym (count_none _)) (sym (count_none _)))
 
-  pub tally-skip : (i j : ℕ) (x : Status) (t r : Tally) → i ≡ j + 1 → x ≡ status M F s j → is_unreadable (status M F s j) ≡ false → t ≡ tally_of M F s j → r ≡ with_standing t x → r ≡ tally_of M F s i
-  tally-skip i j x t r e ex u et er =
+  pub tally_skip : (i j : ℕ) (x : Status) (t r : Tally) → i ≡ j + 1 → x ≡ status M F s j → is_unreadable (status M F s j) ≡ false → t ≡ tally_of M F s j → r ≡ with_standing t x → r ≡ tally_of M F s i
+  tally_skip i j x t r e ex u et er =
       er ∙ ap₂ with_standing et ex
       ∙ same_tally _ _ _ _ _ _
       (count_skip (λ k. is_unreadable (status M F s k) && takes (M k) s) j (ap (λ (b : Bool). b && takes (M j) s) u))
@@ -112,8 +112,8 @@ module _ (M : Members) (F : Frontiers) (s : ℕ) where
       (count_step (λ k. is_absent (status M F s k)) j _ refl)
       ∙ ap (tally_of M F s) (sym e)
 
-  pub tally-mend : (i j : ℕ) (ok : Bool) (t r : Tally) → i ≡ j + 1 → ok ≡ takes (M j) s → is_unreadable (status M F s j) ≡ true → t ≡ tally_of M F s j → r ≡ with_mend t ok → r ≡ tally_of M F s i
-  tally-mend i j ok t r e eo u et er =
+  pub tally_mend : (i j : ℕ) (ok : Bool) (t r : Tally) → i ≡ j + 1 → ok ≡ takes (M j) s → is_unreadable (status M F s j) ≡ true → t ≡ tally_of M F s j → r ≡ with_mend t ok → r ≡ tally_of M F s i
+  tally_mend i j ok t r e eo u et er =
       er ∙ ap₂ with_mend et eo
       ∙ same_tally _ _ _ _ _ _
       (count_step (λ k. is_unreadable (status M F s k) && takes (M k) s) j (takes (M j) s) (sym (ap (λ (b : Bool). b && takes (M j) s) u)))
@@ -123,8 +123,8 @@ module _ (M : Members) (F : Frontiers) (s : ℕ) where
       ∙ ap (tally_of M F s) (sym e)
 
   -- no count is above the number of slots
-  pub tally-low : (i : ℕ) (t : Tally) → i ≤ 18 → t ≡ tally_of M F s i → (t.mended ≤ 18) × (t.refused ≤ 18) × (t.absent ≤ 18)
-  tally-low i t l e =
+  pub tally_low : (i : ℕ) (t : Tally) → i ≤ 18 → t ≡ tally_of M F s i → (t.mended ≤ 18) × (t.refused ≤ 18) × (t.absent ≤ 18)
+  tally_low i t l e =
       let a = count_le (λ k. is_unreadable (status M F s k) && takes (M k) s) i in
       let b = count_le (λ k. is_unreadable (status M F s k) && not (takes (M k) s)) i in
       let d = count_le (λ k. is_absent (status M F s k)) i in

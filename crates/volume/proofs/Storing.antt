@@ -34,15 +34,15 @@ never_due false b e = e
 
 module _ (M : Members) (F : Frontiers) (s i : ℕ) (v : List ℕ) where
   -- a write was made below the frontier
-  pub stored-below : (N : Members) → ltb s (F i) ≡ true → Moved (λ m n. Written m s v n) i M N → Moved (Put (due M F s i) s v) i M N
-  stored-below N below h = record {
+  pub stored_below : (N : Members) → ltb s (F i) ≡ true → Moved (λ m n. Written m s v n) i M N → Moved (Put (due M F s i) s v) i M N
+  stored_below N below h = record {
     here = record { written = λ _. h.here; kept = λ d. gone_kept (M i) (N i) s v h.here (not_due (M i).gone (ltb s (F i)) below d) };
     others = h.others;
   }
 
   -- none was made beyond it
-  pub stored-beyond : ltb s (F i) ≡ false → Moved (Put (due M F s i) s v) i M M
-  stored-beyond beyond = record {
+  pub stored_beyond : ltb s (F i) ≡ false → Moved (Put (due M F s i) s v) i M M
+  stored_beyond beyond = record {
     here = record { written = λ d. absurd (true≢false (sym d ∙ never_due (M i).gone (ltb s (F i)) beyond)); kept = λ _. refl };
     others = λ j ne. refl;
   }

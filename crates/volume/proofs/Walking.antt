@@ -12,7 +12,7 @@ use Rattle.contents.specs.Changes.{Moved}
 use Rattle.contents.proofs.Members.{written_count}
 use Rattle.volume.specs.Slots.{members_of, empty_member}
 use Rattle.volume.specs.Turns.{in_turn}
-use Rattle.volume.proofs.Looking.{members-here, members-beyond, members-empty}
+use Rattle.volume.proofs.Looking.{members_here, members_beyond, members_empty}
 
 -- a member that is the same in a bank of the same length
 members_same : (ms ns : Slots) (j : ℕ) → ns.size ≡ ms.size → ns.member j ≡ ms.member j → members_of ns j ≡ members_of ms j
@@ -21,8 +21,8 @@ members_same ms ns j e f = ap₂ (λ (n : ℕ) (m : Meaning). cond (ltb j n && l
 
 -- a change of a slot of the bank is a move of the volume's member, where it keeps counts and an empty member may stay
 module _ (R : Meaning → Meaning → Type 0) (stays : R empty_member empty_member) (counts : (m n : Meaning) → R m n → n.count ≡ m.count) where
-  pub moved-of : (ms ns : Slots) (i : ℕ) → Changed R ms i ns → Moved R i (members_of ms) (members_of ns)
-  moved-of ms ns i h = record { here = go; others = λ j ne. members_same ms ns j h.size (h.others j ne) }
+  pub moved_of : (ms ns : Slots) (i : ℕ) → Changed R ms i ns → Moved R i (members_of ms) (members_of ns)
+  moved_of ms ns i h = record { here = go; others = λ j ne. members_same ms ns j h.size (h.others j ne) }
     where
       both : (A B : Meaning) → A ≡ empty_member → B ≡ empty_member → R A B
       both A B e f = subst (λ (x : Meaning). R x B) (sym e) (subst (λ (x : Meaning). R empty_member x) (sym f) stays)
@@ -36,17 +36,17 @@ module _ (R : Meaning → Meaning → Type 0) (stays : R empty_member empty_memb
           let z = h.size in
           ⊎_elim
           (λ (p : 0 < (ms.member i).count).
-          subst (λ (x : Meaning). R x (members_of ns i)) (sym (members-here ms i l p))
-          (subst (λ (x : Meaning). R (ms.member i) x) (sym (members-here ns i (omega arith) (omega arith))) r))
-          (λ (p : (ms.member i).count ≤ 0). both _ _ (members-empty ms i p) (members-empty ns i (omega arith)))
+          subst (λ (x : Meaning). R x (members_of ns i)) (sym (members_here ms i l p))
+          (subst (λ (x : Meaning). R (ms.member i) x) (sym (members_here ns i (omega arith) (omega arith))) r))
+          (λ (p : (ms.member i).count ≤ 0). both _ _ (members_empty ms i p) (members_empty ns i (omega arith)))
           (cases_lt 0 (ms.member i).count))
           (λ (l : ms.size ≤ i).
           let z = h.size in
-          both _ _ (members-beyond ms i l) (members-beyond ns i (omega arith)))
+          both _ _ (members_beyond ms i l) (members_beyond ns i (omega arith)))
           (cases_lt i ms.size)
 
 pub ticked_moved : (ms ns : Slots) (i : ℕ) → Changed Ticked ms i ns → Moved Ticked i (members_of ms) (members_of ns)
-ticked_moved = moved-of Ticked (record { level = record { count = refl; height = refl }; gone = λ e. e; blocks = λ k v l e. e }) (λ m n t. t.level.count)
+ticked_moved = moved_of Ticked (record { level = record { count = refl; height = refl }; gone = λ e. e; blocks = λ k v l e. e }) (λ m n t. t.level.count)
 
 empty_refused : (s n : ℕ) → (f : Refusal) × (write_refusal empty_member s n ≡ Some f) × (f.cause ≡ 3 → ⊥)
 empty_refused s n =
@@ -65,18 +65,18 @@ empty_written s v =
     }
 
 pub written_moved : (s : ℕ) (v : List ℕ) (ms ns : Slots) (i : ℕ) → Changed (λ m n. Written m s v n) ms i ns → Moved (λ m n. Written m s v n) i (members_of ms) (members_of ns)
-written_moved s v = moved-of (λ m n. Written m s v n) (empty_written s v) (λ m n w. written_count m s v n w)
+written_moved s v = moved_of (λ m n. Written m s v n) (empty_written s v) (λ m n w. written_count m s v n w)
 
 -- the count of a slot
 pub count_here : (ms : Slots) (i : ℕ) → i < ms.size → (members_of ms i).count ≡ (ms.member i).count
 count_here ms i l =
     ⊎_elim
-    (λ (p : 0 < (ms.member i).count). ap (λ (m : Meaning). m.count) (members-here ms i l p))
-    (λ (p : (ms.member i).count ≤ 0). ap (λ (m : Meaning). m.count) (members-empty ms i p) ∙ omega arith)
+    (λ (p : 0 < (ms.member i).count). ap (λ (m : Meaning). m.count) (members_here ms i l p))
+    (λ (p : (ms.member i).count ≤ 0). ap (λ (m : Meaning). m.count) (members_empty ms i p) ∙ omega arith)
     (cases_lt 0 (ms.member i).count)
 
 pub count_beyond : (ms : Slots) (i : ℕ) → ms.size ≤ i → (members_of ms i).count ≡ 0
-count_beyond ms i l = ap (λ (m : Meaning). m.count) (members-beyond ms i l)
+count_beyond ms i l = ap (λ (m : Meaning). m.count) (members_beyond ms i l)
 
 -- what a question about a slot's count tells of the slot
 pub slot_there : (i n : ℕ) (x : Refusal) → None ≡ cond (ltb i n) None (Some x) → i < n

@@ -9,7 +9,7 @@ use Rattle.history.specs.Calls.Answer.{done, bytes}
 use Rattle.volume.specs.Slots.{members_of}
 use Rattle.volume.specs.Volumes.{means, shape}
 use Rattle.runs.specs.Told.{state, event_with, Goes_on}
-use Rattle.runs.proofs.Going.{shape_same, records-same, no_bytes, goes}
+use Rattle.runs.proofs.Going.{shape_same, records_same, no_bytes, goes}
 use Rattle.runs.proofs.read_into.Goals as goal
 
 pub returns-then-len-ne-BLOCK : goal.returns-then-len-ne-BLOCK
@@ -26,6 +26,6 @@ returns-then-len-ne-BLOCK g c =
       goes = subst (λ (rs : List calls.Answer). Goes_on (shape m v) (state m v) (event_with (read a c.args.len) rs) (state m w)) (sym c.nothing.ensures.value)
           (goes (shape m v) (state m v) (state m w) (read a c.args.len) _ (no_bytes _ refl) (λ room. record {
             answer = ap (answered (λ _. done)) c.read.ensures.answered ∙ sym (ap (answered (λ _. bytes found)) (cond-false _ _ _ (ne_eqb c.args.len 512 c.if-len-ne-BLOCK.true)));
-            changes = (ap members_of c.read.ensures.same, records-same m v w k.table);
+            changes = (ap members_of c.read.ensures.same, records_same m v w k.table);
           }));
     }

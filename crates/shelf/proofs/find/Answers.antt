@@ -1,7 +1,7 @@
 use Rattle.std.proofs.Common.{◌≡◌, ◌+◌, ◌*◌, ◌/◌, ◌^◌, ◌<◌, ◌≤◌, min, length, Some, sym, refl, ap, ◌∙◌, arith, rules}
 use Rattle.member.specs.Runs.{image_meaning}
 use Rattle.shelf.specs.Shelves.{part, span}
-use Rattle.shelf.specs.ShelvesLemmas.{room, part_count, block-found, block-beyond}
+use Rattle.shelf.specs.ShelvesLemmas.{room, part_count, block_found, block_beyond}
 use Rattle.shelf.proofs.find.Goals as goal
 
 pub returns : goal.returns
@@ -15,7 +15,7 @@ returns c =
     let low : b < (image_meaning (part xs n i)).count = omega (arith, count, c.min.ensures) in
     let share : b < (length xs / 512) / n = omega (arith, c.min.ensures) in
     record {
-      answered = sym (block-found xs n i b c.args.size there c.if-size-ne-BLOCK.false low);
+      answered = sym (block_found xs n i b c.args.size there c.if-size-ne-BLOCK.false low);
       found = record {
         slot = there;
         from = refl;
@@ -33,7 +33,7 @@ returns-then-block-min c =
     let count = part_count xs c.args.images c.args.slot c.if-slot-images.false in
     let high : (image_meaning (part xs c.args.images c.args.slot)).count ≤ c.args.block = omega (arith, count, c.min.ensures) in
     record {
-      answered = ap Some c.no-block.ensures.value ∙ sym (block-beyond xs c.args.images c.args.slot c.args.block c.args.size c.if-slot-images.false c.if-size-ne-BLOCK.false high);
+      answered = ap Some c.no-block.ensures.value ∙ sym (block_beyond xs c.args.images c.args.slot c.args.block c.args.size c.if-slot-images.false c.if-size-ne-BLOCK.false high);
       found = tt;
     }
 

@@ -2,7 +2,7 @@ use Rattle.std.proofs.Common.{length, Err, sym, refl, ap, ◌∙◌}
 use Rattle.std.proofs.lemmas.Result.{err_from_is_err_and}
 use Rattle.bank.specs.Slots.{bank_refusal}
 use Rattle.shelf.specs.Shelves.{shelved, shelf_meaning}
-use Rattle.shelf.specs.ShelvesLemmas.{refused_handed, handed-found}
+use Rattle.shelf.specs.ShelvesLemmas.{refused_handed, handed_found}
 use Rattle.shelf.proofs.read_in.Goals as goal
 
 pub returns-in-err-at : goal.returns-in-err-at
@@ -22,6 +22,6 @@ returns c =
       answered = c.in-ok-at.ensures.answered;
       after =
           c.get.ensures.after
-          ∙ handed-found c.args.run.now c.args.images c.args.slot c.args.block (length old) at.start at.end c.in-ok-at.ensures.found old
+          ∙ handed_found c.args.run.now c.args.images c.args.slot c.args.block (length old) at.start at.end c.in-ok-at.ensures.found old
           refl;
     }

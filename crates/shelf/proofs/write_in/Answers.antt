@@ -3,7 +3,7 @@ use borrow.Rule.Slice.PartMut.{put_mid}
 use Rattle.std.proofs.lemmas.Result.{err_from_is_err_and}
 use Rattle.bank.specs.Slots.{bank_refusal}
 use Rattle.shelf.specs.Shelves.{shelved, shelf_wrote}
-use Rattle.shelf.specs.ShelvesLemmas.{read_as_write, refused_wrote, wrote_found, wrote-low}
+use Rattle.shelf.specs.ShelvesLemmas.{read_as_write, refused_wrote, wrote_found, wrote_low}
 use Rattle.shelf.proofs.write_in.Goals as goal
 
 pub returns-in-err-at : goal.returns-in-err-at
@@ -37,5 +37,5 @@ returns c =
       exact = exact;
       low = λ h k.
           subst (λ t. get_or t.bytes k 0 < 256) (sym exact)
-          (wrote-low (shelved xs n) i b v (record { long = refl; bytes = h }) (record { long = refl; bytes = λ j. (c.type-inv.bytes j).fits }) k);
+          (wrote_low (shelved xs n) i b v (record { long = refl; bytes = h }) (record { long = refl; bytes = λ j. (c.type-inv.bytes j).fits }) k);
     }

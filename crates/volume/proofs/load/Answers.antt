@@ -2,7 +2,7 @@ use Rattle.std.proofs.Common.{◌≡◌, ℕ, Bool, false, List, is_some, None, 
 use Rattle.parity.specs.Ways.{or_else}
 use Rattle.contents.specs.Columns.{held}
 use Rattle.volume.specs.Slots.{members_of, frontier_of}
-use Rattle.volume.proofs.Looking.{behind_held, load-current, load_after}
+use Rattle.volume.proofs.Looking.{behind_held, load_current, load_after}
 use Rattle.volume.proofs.load.Goals as goal
 
 pub returns-then-not-has : goal.returns-then-not-has
@@ -26,7 +26,7 @@ returns g c =
     record {
       same = c.read.ensures.same;
       current = subst (λ (x : ℕ). c.is-ok.result ≡ is_some (held (members_of ms) F s x)) c.slot-of-slot.ensures.value
-          (load-current ms sound i s old c.requires.sized F below c.read.new.buffer c.read.result c.is-ok.result c.read.ensures.answered c.is-ok.ensures.value c.read.ensures.after);
+          (load_current ms sound i s old c.requires.sized F below c.read.new.buffer c.read.result c.is-ok.result c.read.ensures.answered c.is-ok.ensures.value c.read.ensures.after);
       after = subst (λ (x : ℕ). c.read.new.buffer ≡ or_else (held (members_of ms) F s x) old) c.slot-of-slot.ensures.value
           (load_after ms sound i s old c.requires.sized F below c.read.new.buffer c.read.result c.is-ok.result c.read.ensures.answered c.is-ok.ensures.value c.read.ensures.after);
     }

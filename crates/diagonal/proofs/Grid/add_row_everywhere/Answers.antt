@@ -1,6 +1,6 @@
 use Rattle.std.proofs.Common.{arith}
 use Rattle.diagonal.specs.Facts.{sizes_of}
-use Rattle.prime.proofs.Repeats.{row-everywhere, no-row-everywhere, length_row}
+use Rattle.prime.proofs.Repeats.{row_everywhere, no_row_everywhere, length_row}
 use Rattle.diagonal.proofs.Grid.add_row_everywhere.Goals as goal
 
 pub row-requires : goal.row-requires
@@ -13,11 +13,11 @@ repeat-requires c = record {
 
 pub returns-then-r-self : goal.returns-then-r-self
 returns-then-r-self c = record {
-  after = row-everywhere c.args.self.now.prime c.args.self.now.width 512 (sizes_of c.args.self.now) c.args.r c.args.source.now c.row.result.now c.repeat.result c.args.into.now c.xor-run.new.into
+  after = row_everywhere c.args.self.now.prime c.args.self.now.width 512 (sizes_of c.args.self.now) c.args.r c.args.source.now c.row.result.now c.repeat.result c.args.into.now c.xor-run.new.into
       c.requires.room c.row.ensures.value c.repeat.ensures.value c.xor-run.ensures.after;
 }
 
 pub returns-else-r-self : goal.returns-else-r-self
 returns-else-r-self c = record {
-  after = no-row-everywhere c.args.self.now.prime c.args.self.now.width 512 (sizes_of c.args.self.now) c.args.r c.args.source.now c.args.into.now c.requires.sized c.requires.room c.if-r-self.false;
+  after = no_row_everywhere c.args.self.now.prime c.args.self.now.width 512 (sizes_of c.args.self.now) c.args.r c.args.source.now c.args.into.now c.requires.sized c.requires.room c.if-r-self.false;
 }

@@ -1,13 +1,13 @@
 use Rattle.std.proofs.Common.{ℕ, get_or, replicate, refl, ap, ◌∙◌, arith}
 use Rattle.diagonal.specs.Facts.{sizes_of}
-use Rattle.prime.proofs.Repeats.{filled-first, filled_more, filled-all}
+use Rattle.prime.proofs.Repeats.{filled_first, filled_more, filled_all}
 use Rattle.diagonal.proofs.Grid.repeat.Goals as goal
 
 pub put-row-requires : goal.put-row-requires
 put-row-requires c = record { sized = c.requires.sized; within = omega (arith, (sizes_of c.args.self.now).short) }
 
 pub loop-done-init : goal.loop-done-init
-loop-done-init c = filled-first c.args.self.now.prime c.args.self.now.width 512 (sizes_of c.args.self.now) c.args.row.now (replicate 512 0) c.put-row.new.block refl c.requires.sized c.put-row.ensures.after
+loop-done-init c = filled_first c.args.self.now.prime c.args.self.now.width 512 (sizes_of c.args.self.now) c.args.row.now (replicate 512 0) c.put-row.new.block refl c.requires.sized c.put-row.ensures.after
 
 pub loop-done-preserved : goal.loop-done-preserved
 loop-done-preserved c =
@@ -17,5 +17,5 @@ loop-done-preserved c =
 
 pub returns : goal.returns
 returns c = record {
-  value = filled-all c.args.self.now.prime c.args.self.now.width 512 (sizes_of c.args.self.now) c.args.row.now c.loop-done.block c.loop-done.done c.loop-done-test.false c.loop-done.invariant;
+  value = filled_all c.args.self.now.prime c.args.self.now.width 512 (sizes_of c.args.self.now) c.args.row.now c.loop-done.block c.loop-done.done c.loop-done-test.false c.loop-done.invariant;
 }

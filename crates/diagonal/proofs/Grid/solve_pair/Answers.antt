@@ -1,6 +1,6 @@
 use Rattle.std.proofs.Common.{replicate, refl, arith}
 use Rattle.prime.proofs.Repeats.{length_row, byte_of_zeros}
-use Rattle.prime.proofs.Walks.{Stride, stride, walked_none, walked_more, walk-solves, next-within, low_k, low_r, first_row}
+use Rattle.prime.proofs.Walks.{Stride, stride, walked_none, walked_more, walk_solves, next_within, low_k, low_r, first_row}
 use Rattle.diagonal.specs.Facts.{sizes_of}
 use Rattle.diagonal.proofs.Grid.solve_pair.Goals as goal
 
@@ -39,7 +39,7 @@ put-row-requires c =
     let g = c.args.self.now in
     record {
       sized = length_row g.width 0 c.add-row.new.into c.row-in-loop-m.result.now (omega (arith, (sizes_of g).short, c.add-row.auto.into, c.loop-m.invariant.room)) c.row-in-loop-m.ensures.value;
-      within = omega (arith, (sizes_of g).within c.fold-k.result (next-within (sizes_of g) c.loop-m.invariant c.loop-m-test.true c.fold-k.ensures.value), c.loop-m.invariant.long);
+      within = omega (arith, (sizes_of g).within c.fold-k.result (next_within (sizes_of g) c.loop-m.invariant c.loop-m-test.true c.fold-k.ensures.value), c.loop-m.invariant.long);
     }
 
 pub loop-m-preserved : goal.loop-m-preserved
@@ -53,5 +53,5 @@ pub returns : goal.returns
 returns c =
     let g = c.args.self.now in
     record {
-      after = walk-solves g.prime g.indivisible c.args.u c.args.v c.fold-step.result c.requires.low c.requires.apart c.fold-step.ensures.value (sizes_of g) c.loop-m-test.false c.loop-m.invariant;
+      after = walk_solves g.prime g.indivisible c.args.u c.args.v c.fold-step.result c.requires.low c.requires.apart c.fold-step.ensures.value (sizes_of g) c.loop-m-test.false c.loop-m.invariant;
     }

@@ -1,7 +1,7 @@
 use Rattle.std.proofs.Common.{sym, subst}
 use Rattle.member.specs.Changes.{Ticked}
-use Rattle.faultplan.specs.Layers.{planned, layer-meaning}
-use Rattle.faultplan.proofs.Layers.{layer-lawful}
+use Rattle.faultplan.specs.Layers.{planned, layer_meaning}
+use Rattle.faultplan.proofs.Layers.{layer_lawful}
 use Rattle.faulty.proofs.FaultLayerMember.tick.Goals as goal
 
 pub returns : goal.returns
@@ -9,11 +9,11 @@ returns g c =
     let M = g.M.Member in
     let self = c.args.self.now in
     let x = planned (M.state self.below) self.plan in
-    let law = layer-lawful M.sound M.meaning M.seen M.wrote M.ticked M.renewed g.met.M.Member.lawful in
+    let law = layer_lawful M.sound M.meaning M.seen M.wrote M.ticked M.renewed g.met.M.Member.lawful in
     let exact = c.advance.ensures.exact in
     record {
       exact = exact;
       after =
-          subst (λ y. Ticked (layer-meaning M.meaning x) (layer-meaning M.meaning y)) (sym exact)
+          subst (λ y. Ticked (layer_meaning M.meaning x) (layer_meaning M.meaning y)) (sym exact)
           (law.ticks x (g.met.M.Member.holds self.below));
     }

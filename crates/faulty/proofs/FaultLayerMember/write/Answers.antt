@@ -1,8 +1,8 @@
 use Rattle.std.proofs.Common.{◌≡◌, ◌<◌, Some, None, sym, ap, ◌∙◌, subst, arith}
 use Rattle.member.specs.Faults.{numbers}
 use Rattle.member.specs.Changes.{Written}
-use Rattle.faultplan.specs.Layers.{planned, layer-meaning}
-use Rattle.faultplan.proofs.Layers.{same_planned, layered-write, wrote-settled, layer-writes}
+use Rattle.faultplan.specs.Layers.{planned, layer_meaning}
+use Rattle.faultplan.proofs.Layers.{same_planned, layered_write, wrote_settled, layer_writes}
 use Rattle.faulty.proofs.FaultLayerMember.write.Goals as goal
 
 pub returns-in-Ok : goal.returns-in-Ok
@@ -15,13 +15,13 @@ returns-in-Ok g c =
     let whole = c.if-bytes-ne-BLOCK.false in
     let there : b < (M.meaning x.below).count = omega (arith, c.count.ensures.value, c.if-block-count.false) in
     let pass = sym c.in-Ok.ensures.answered in
-    let exact = c.pass.ensures.exact ∙ sym (wrote-settled M.meaning M.wrote x b v whole there None pass) in
+    let exact = c.pass.ensures.exact ∙ sym (wrote_settled M.meaning M.wrote x b v whole there None pass) in
     record {
-      answered = c.pass.ensures.answered ∙ sym (layered-write M.meaning M.wrote x b v whole there None pass);
+      answered = c.pass.ensures.answered ∙ sym (layered_write M.meaning M.wrote x b v whole there None pass);
       exact = exact;
       after =
-          subst (λ y. Written (layer-meaning M.meaning x) b v (layer-meaning M.meaning y)) (sym exact)
-          (layer-writes M.meaning M.wrote x b v (g.met.M.Member.lawful.writes x.below b v (g.met.M.Member.holds self.below)));
+          subst (λ y. Written (layer_meaning M.meaning x) b v (layer_meaning M.meaning y)) (sym exact)
+          (layer_writes M.meaning M.wrote x b v (g.met.M.Member.lawful.writes x.below b v (g.met.M.Member.holds self.below)));
     }
 
 pub returns-in-Err : goal.returns-in-Err
@@ -37,11 +37,11 @@ returns-in-Err g c =
     let shut = sym c.in-Err.ensures.answered in
     let exact =
     same_planned (ap M.state c.stop.ensures.below) c.stop.ensures.plan
-    ∙ sym (wrote-settled M.meaning M.wrote x b v whole there f shut) in
+    ∙ sym (wrote_settled M.meaning M.wrote x b v whole there f shut) in
     record {
-      answered = sym (layered-write M.meaning M.wrote x b v whole there f shut);
+      answered = sym (layered_write M.meaning M.wrote x b v whole there f shut);
       exact = exact;
       after =
-          subst (λ y. Written (layer-meaning M.meaning x) b v (layer-meaning M.meaning y)) (sym exact)
-          (layer-writes M.meaning M.wrote x b v (g.met.M.Member.lawful.writes x.below b v (g.met.M.Member.holds self.below)));
+          subst (λ y. Written (layer_meaning M.meaning x) b v (layer_meaning M.meaning y)) (sym exact)
+          (layer_writes M.meaning M.wrote x b v (g.met.M.Member.lawful.writes x.below b v (g.met.M.Member.holds self.below)));
     }

@@ -1,6 +1,6 @@
 use Rattle.std.proofs.Common.{◌≡◌, ℕ, ◌+◌, ◌-◌, ◌*◌, ◌<◌, length, take, drop, sym, ap, ◌∙◌, arith}
 use Rattle.member.specs.Runs.{whole_blocks, cut}
-use Rattle.member.specs.RunsLemmas.{read_ok, handed-ok}
+use Rattle.member.specs.RunsLemmas.{read_ok, handed_ok}
 use Rattle.member.proofs.run.read_in.Goals as goal
 
 pub returns : goal.returns
@@ -14,5 +14,5 @@ returns c =
     let span : b * 512 + 512 - b * 512 ≡ 512 = omega arith in
     record {
       answered = sym (read_ok n xs b lt (length old) sized);
-      after = c.copy-from-slice.ensures.after ∙ ap (λ k. take k (drop (b * 512) xs)) span ∙ sym (handed-ok n xs b lt old sized);
+      after = c.copy-from-slice.ensures.after ∙ ap (λ k. take k (drop (b * 512) xs)) span ∙ sym (handed_ok n xs b lt old sized);
     }

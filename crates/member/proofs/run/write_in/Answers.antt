@@ -1,7 +1,7 @@
 use Rattle.std.proofs.Common.{◌≡◌, ℕ, ◌+◌, ◌-◌, ◌*◌, ◌<◌, length, sym, ap, ◌∙◌, arith}
 use borrow.Rule.Slice.PartMut.{put_mid}
 use Rattle.member.specs.Runs.{whole_blocks, pasted}
-use Rattle.member.specs.RunsLemmas.{write-ok, wrote-ok}
+use Rattle.member.specs.RunsLemmas.{write_ok, wrote_ok}
 use Rattle.member.proofs.run.write_in.Goals as goal
 
 pub returns : goal.returns
@@ -14,9 +14,9 @@ returns c =
     let lt : b < n = omega arith in
     let span : b * 512 + 512 - b * 512 ≡ 512 = omega arith in
     record {
-      answered = sym (write-ok n xs b lt (length v) sized);
+      answered = sym (write_ok n xs b lt (length v) sized);
       after =
           ap (λ k. put_mid (b * 512) k xs c.copy-from-slice.new.self) span
-          ∙ ap (pasted xs b) c.copy-from-slice.ensures.after ∙ sym (wrote-ok n xs b lt v sized);
+          ∙ ap (pasted xs b) c.copy-from-slice.ensures.after ∙ sym (wrote_ok n xs b lt v sized);
       low = λ h i. (c.type-inv.run i).fits;
     }

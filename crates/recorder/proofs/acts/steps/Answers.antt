@@ -2,7 +2,7 @@ use Rattle.std.proofs.Common.{◌≡◌, ℕ, ◌<◌, ◌≤◌, sym, refl, ap,
 use Rattle.contents.specs.Refusals.{told}
 use Rattle.volume.specs.Volumes.{means, shape}
 use Rattle.runs.specs.Told.{state}
-use Rattle.recorder.proofs.Running.{going_none, going_more, steps-ended, steps-halted, steps_spent}
+use Rattle.recorder.proofs.Running.{going_none, going_more, steps_ended, steps_halted, steps_spent}
 use Rattle.recorder.proofs.acts.steps.Goals as goal
 
 pub loop-made-init : goal.loop-made-init
@@ -32,7 +32,7 @@ returns-then-frontier-stripes g c =
     let l : (shape m v).stripes ≤ c.in-Ok.frontier = (let s = c.stripes-stripes.ensures.value in omega (arith, c.if-frontier-stripes.true)) in
     record {
       same = c.step.ensures.same ∙ h.0;
-      steps = steps-ended (shape m v) (shape m u) (state m v) (state m u) (state m w) i n h.0 h.1 c.args.most c.in-Ok.frontier c.loop-made-test.true l c.in-Ok.ensures.goes;
+      steps = steps_ended (shape m v) (shape m u) (state m v) (state m u) (state m w) i n h.0 h.1 c.args.most c.in-Ok.frontier c.loop-made-test.true l c.in-Ok.ensures.goes;
     }
 
 pub returns-in-Err : goal.returns-in-Err
@@ -46,7 +46,7 @@ returns-in-Err g c =
     let n = c.loop-made.-made in
     record {
       same = c.step.ensures.same ∙ h.0;
-      steps = steps-halted (shape m v) (shape m u) (state m v) (state m u) (state m w) i n h.0 h.1 c.args.most (told c.in-Err.refusal) c.loop-made-test.true c.in-Err.ensures.goes;
+      steps = steps_halted (shape m v) (shape m u) (state m v) (state m u) (state m w) i n h.0 h.1 c.args.most (told c.in-Err.refusal) c.loop-made-test.true c.in-Err.ensures.goes;
     }
 
 pub returns : goal.returns

@@ -6,14 +6,14 @@ use Rattle.member.specs.Meaning.{write_refusal}
 use Rattle.remap.specs.Places.{table_of, place, used, left, moved_on}
 use Rattle.remap.specs.Remapped.{layer}
 use Rattle.remap.specs.Tables.{table_within, moved_here, none_left, some_left}
-use Rattle.remap.specs.Tries.{Trying, trying-none, trying-all, trying-spent, trying-more}
+use Rattle.remap.specs.Tries.{Trying, trying_none, trying_all, trying_spent, trying_more}
 use Rattle.remap.proofs.Remap.put.Goals as goal
 
 pub loop-answer-init : goal.loop-answer-init
 loop-answer-init g c =
     let s = c.args.self.now in (
       c.place-at.ensures.value,
-      trying-none g.M.Member.meaning g.M.Member.wrote c.args.first c.args.block c.args.bytes.now (g.M.Member.state s.below)
+      trying_none g.M.Member.meaning g.M.Member.wrote c.args.first c.args.block c.args.bytes.now (g.M.Member.state s.below)
           (table_of s.moves) (omega (arith, c.requires.first, c.requires.there)),
     )
 
@@ -32,7 +32,7 @@ returns-then-not-refused-with g c =
     c.write-answer.ensures.answered ∙ ap (λ q. write_refusal (M.meaning x) q (length v)) e in
     let other : refused_with 3 (write_refusal (M.meaning x) p (length v)) ≡ false =
     ap (refused_with 3) (sym said) ∙ sym c.if-not-refused-with.ensures.value in
-    let q = trying-all M.sound M.meaning M.seen M.wrote M.ticked M.renewed g.met.M.Member.lawful first b v c.requires.sized
+    let q = trying_all M.sound M.meaning M.seen M.wrote M.ticked M.renewed g.met.M.Member.lawful first b v c.requires.sized
     c.requires.there (M.state c.args.self.now.below) (table_of c.args.self.now.moves) x u (g.met.M.Member.holds s.below)
     (table_within s.moves) c.loop-answer.invariant.1 other in
     record {
@@ -57,7 +57,7 @@ returns-in-default g c =
     ap (refused_with 3) (sym said) ∙ sym c.if-not-refused-with.ensures.value in
     let none = none_left u c.in-default.ensures.value in
     let full : left u ≡ 0 = omega (arith, ltb-false (used u) u.spares none) in
-    let q = trying-spent M.sound M.meaning M.seen M.wrote M.ticked M.renewed g.met.M.Member.lawful first b v c.requires.sized
+    let q = trying_spent M.sound M.meaning M.seen M.wrote M.ticked M.renewed g.met.M.Member.lawful first b v c.requires.sized
     c.requires.there (M.state c.args.self.now.below) (table_of c.args.self.now.moves) x u (g.met.M.Member.holds s.below)
     (table_within s.moves) c.loop-answer.invariant.1 three full in
     let exact : M.state c.write-answer.new.self ≡ M.wrote x p v = c.write-answer.ensures.exact ∙ ap (λ r. M.wrote x r v) e in
@@ -89,7 +89,7 @@ loop-answer-preserved g c =
     let some = some_left u c.in-Some.spare c.in-Some.ensures.value in
     let exact : M.state c.write-answer.new.self ≡ M.wrote x p v = c.write-answer.ensures.exact ∙ ap (λ r. M.wrote x r v) e in
     let next : table_of c.take.new.self ≡ moved_on u b = c.in-Some.ensures.after ∙ cond-true _ _ _ some.0 in
-    let on = trying-more M.sound M.meaning M.seen M.wrote M.ticked M.renewed g.met.M.Member.lawful first b v c.requires.sized
+    let on = trying_more M.sound M.meaning M.seen M.wrote M.ticked M.renewed g.met.M.Member.lawful first b v c.requires.sized
     c.requires.there from t x u (g.met.M.Member.holds s.below) (table_within s.moves) c.loop-answer.invariant.1 three
     (ltb-true (used u) u.spares some.0) (λ i. (c.type-inv.bytes i).fits) in (
       ap (λ k. first + k) some.1 ∙ sym (moved_here u first b) ∙ ap (λ w. place w first b) (sym next),

@@ -1,7 +1,7 @@
 use Rattle.std.proofs.Common.{◌∙◌}
 use Rattle.remap.specs.Places.{table_of}
 use Rattle.remap.specs.Tables.{table_within}
-use Rattle.remap.proofs.Calls.{look-through}
+use Rattle.remap.proofs.Calls.{look_through}
 use Rattle.remap.proofs.RemapMember.look.Goals as goal
 
 pub returns : goal.returns
@@ -10,6 +10,6 @@ returns g c =
     record {
       answered =
           c.look.ensures.answered
-          ∙ look-through (table_of s.moves) (g.M.Member.meaning (g.M.Member.state s.below)) (table_within s.moves) c.args.block
+          ∙ look_through (table_of s.moves) (g.M.Member.meaning (g.M.Member.state s.below)) (table_within s.moves) c.args.block
           c.first-first.result c.first-first.ensures.value c.if-block-first.false c.place-at.result c.place-at.ensures.value;
     }

@@ -2,7 +2,7 @@ use Rattle.std.proofs.Common.{length, ap, ◌∙◌}
 use Rattle.remap.specs.Places.{table_of}
 use Rattle.remap.specs.Remapped.{layer, remapped}
 use Rattle.remap.specs.Tables.{table_within}
-use Rattle.remap.proofs.Calls.{read_through, handed-through, seen-through}
+use Rattle.remap.proofs.Calls.{read_through, handed_through, seen_through}
 use Rattle.remap.proofs.RemapMember.read.Goals as goal
 
 pub returns : goal.returns
@@ -22,9 +22,9 @@ returns g c =
     let sized = c.if-buffer-ne-BLOCK.false in
     record {
       answered = c.read.ensures.answered ∙ read_through t m within b first ef there at ea (length old) sized;
-      after = c.read.ensures.after ∙ handed-through t m within b first ef there at ea old sized;
+      after = c.read.ensures.after ∙ handed_through t m within b first ef there at ea old sized;
       exact =
           ap (λ y. layer y t) c.read.ensures.exact
-          ∙ seen-through g.M.Member.meaning x t within b first ef there g.M.Member.seen at (length old) ea sized;
+          ∙ seen_through g.M.Member.meaning x t within b first ef there g.M.Member.seen at (length old) ea sized;
       same = ap (remapped t) c.read.ensures.same;
     }

@@ -1,10 +1,10 @@
 use Rattle.std.proofs.Common.{◌≡◌, length, sym, ◌∙◌, subst}
 use Rattle.member.specs.Changes.{Written}
 use Rattle.remap.specs.Places.{table_of}
-use Rattle.remap.specs.Remapped.{layer, layer-meaning, layer-wrote}
+use Rattle.remap.specs.Remapped.{layer, layer_meaning, layer_wrote}
 use Rattle.remap.specs.Tables.{table_within}
-use Rattle.remap.specs.Laws.{layer-writes}
-use Rattle.remap.proofs.Calls.{write-through, wrote-through}
+use Rattle.remap.specs.Laws.{layer_writes}
+use Rattle.remap.proofs.Calls.{write_through, wrote_through}
 use Rattle.remap.proofs.RemapMember.write.Goals as goal
 
 pub returns : goal.returns
@@ -21,13 +21,13 @@ returns g c =
     let there = c.if-block-first.false in
     let sized = c.if-bytes-ne-BLOCK.false in
     let end = layer (M.state c.put.new.self.below) (table_of c.put.new.self.moves) in
-    let exact : end ≡ layer-wrote M.meaning M.wrote (layer x t) b v =
-    c.put.ensures.exact ∙ wrote-through M.meaning x t within b first ef there M.wrote v sized in
+    let exact : end ≡ layer_wrote M.meaning M.wrote (layer x t) b v =
+    c.put.ensures.exact ∙ wrote_through M.meaning x t within b first ef there M.wrote v sized in
     record {
-      answered = c.put.ensures.answered ∙ write-through t (M.meaning x) within b first ef there (length v) sized;
+      answered = c.put.ensures.answered ∙ write_through t (M.meaning x) within b first ef there (length v) sized;
       exact = exact;
       after =
-          subst (λ y. Written (layer-meaning M.meaning (layer x t)) b v (layer-meaning M.meaning y)) (sym exact)
-          (layer-writes M.sound M.meaning M.seen M.wrote M.ticked M.renewed g.met.M.Member.lawful (layer x t) b v
+          subst (λ y. Written (layer_meaning M.meaning (layer x t)) b v (layer_meaning M.meaning y)) (sym exact)
+          (layer_writes M.sound M.meaning M.seen M.wrote M.ticked M.renewed g.met.M.Member.lawful (layer x t) b v
           (record { below = g.met.M.Member.holds s.below; within = within }));
     }

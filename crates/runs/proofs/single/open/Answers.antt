@@ -8,7 +8,7 @@ use Rattle.history.specs.Calls.Call.{tick, read, write, scrub, replace, open_slo
 use Rattle.history.specs.Calls.Answer.{done, bytes, number, counts, order}
 use Rattle.contents.specs.Shapes.{Roomy}
 use Rattle.runs.specs.Told.{state}
-use Rattle.runs.proofs.Going.{shape_same, records-same, no_bytes, goes, order_slot}
+use Rattle.runs.proofs.Going.{shape_same, records_same, no_bytes, goes, order_slot}
 use Rattle.runs.proofs.single.open.Goals as goal
 
 pub returns : goal.returns

@@ -12,7 +12,7 @@ use Rattle.history.specs.Calls.Call.{tick, read, write, scrub, replace, open_slo
 use Rattle.history.specs.Calls.Answer.{done, bytes, number, counts, order}
 use Rattle.contents.specs.Shapes.{Roomy}
 use Rattle.runs.specs.Told.{state}
-use Rattle.runs.proofs.Going.{shape_same, records-same, no_bytes, goes, handed_out}
+use Rattle.runs.proofs.Going.{shape_same, records_same, no_bytes, goes, handed_out}
 use Rattle.runs.proofs.single.read.Goals as goal
 
 pub returns : goal.returns
@@ -28,7 +28,7 @@ returns g c =
     let made : Makes (shape m v) (state m v) (read a (length old)) _ (state m w) = record {
       answer = ap (answered (λ _. bytes new)) c.read.ensures.answered
           ∙ handed_out (read_outcome (shape m v) (state m v).members (frontiers (state m v).records) a (length old)) new found old c.read.ensures.after;
-      changes = (ap members_of c.read.ensures.same, records-same m v w k.table);
+      changes = (ap members_of c.read.ensures.same, records_same m v w k.table);
     } in
     record {
       after = c.read.ensures.after;

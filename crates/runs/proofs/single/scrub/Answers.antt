@@ -8,7 +8,7 @@ use Rattle.history.specs.Calls.Call.{tick, read, write, scrub, replace, open_slo
 use Rattle.history.specs.Calls.Answer.{done, bytes, number, counts, order}
 use Rattle.contents.specs.Shapes.{Roomy}
 use Rattle.runs.specs.Told.{state}
-use Rattle.runs.proofs.Going.{shape_same, records-same, no_bytes, goes, handed_out}
+use Rattle.runs.proofs.Going.{shape_same, records_same, no_bytes, goes, handed_out}
 use Rattle.runs.proofs.single.scrub.Goals as goal
 
 pub returns : goal.returns
@@ -17,7 +17,7 @@ returns g c =
     let v = c.args.volume.now in
     let w = c.scrub.new.self in
     let k = c.scrub.ensures.kept in
-    let made : Makes (shape m v) (state m v) (scrub c.args.stripe) _ (state m w) = record { answer = ap (answered (λ x. counts x.0 x.1 x.2)) c.scrub.ensures.answered; changes = (c.scrub.ensures.changes, records-same m v w k.table) } in
+    let made : Makes (shape m v) (state m v) (scrub c.args.stripe) _ (state m w) = record { answer = ap (answered (λ x. counts x.0 x.1 x.2)) c.scrub.ensures.answered; changes = (c.scrub.ensures.changes, records_same m v w k.table) } in
     record {
       same = shape_same m v w k.code k.layout k.size;
       makes = made;

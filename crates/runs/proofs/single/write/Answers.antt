@@ -8,7 +8,7 @@ use Rattle.history.specs.Calls.Call.{tick, read, write, scrub, replace, open_slo
 use Rattle.history.specs.Calls.Answer.{done, bytes, number, counts, order}
 use Rattle.contents.specs.Shapes.{Roomy}
 use Rattle.runs.specs.Told.{state}
-use Rattle.runs.proofs.Going.{shape_same, records-same, given, goes, handed_out}
+use Rattle.runs.proofs.Going.{shape_same, records_same, given, goes, handed_out}
 use Rattle.runs.proofs.single.write.Goals as goal
 
 pub returns : goal.returns
@@ -17,7 +17,7 @@ returns g c =
     let v = c.args.volume.now in
     let w = c.write.new.self in
     let k = c.write.ensures.kept in
-    let made : Makes (shape m v) (state m v) (write c.args.block c.args.bytes.now) _ (state m w) = record { answer = ap (answered number) c.write.ensures.answered; changes = (c.write.ensures.changes, records-same m v w k.table) } in
+    let made : Makes (shape m v) (state m v) (write c.args.block c.args.bytes.now) _ (state m w) = record { answer = ap (answered number) c.write.ensures.answered; changes = (c.write.ensures.changes, records_same m v w k.table) } in
     record {
       same = shape_same m v w k.code k.layout k.size;
       makes = made;

@@ -4,7 +4,7 @@ use Rattle.member.specs.Meaning.{write_refusal}
 use Rattle.bank.specs.Slots.{on_slot}
 use Rattle.bank.specs.Changes.{SlotWritten}
 use Rattle.shelf.specs.Shelves.{shelved, shelf_meaning, shelf_wrote}
-use Rattle.shelf.specs.ShelvesLemmas.{shelf-writes}
+use Rattle.shelf.specs.ShelvesLemmas.{shelf_writes}
 use Rattle.shelf.proofs.ShelfBank.write.Goals as goal
 
 pub invariant-of-self : goal.invariant-of-self
@@ -33,5 +33,5 @@ returns c =
     record {
       answered = c.write-in.ensures.answered ∙ ap (λ ys. on_slot (shelf_meaning (shelved ys n)) i b (λ m. write_refusal m b (length v))) lent;
       exact = exact;
-      after = subst (λ t. SlotWritten (shelf_meaning s) i b v (shelf_meaning t)) (sym exact) (shelf-writes s i b v);
+      after = subst (λ t. SlotWritten (shelf_meaning s) i b v (shelf_meaning t)) (sym exact) (shelf_writes s i b v);
     }

@@ -1,5 +1,5 @@
 use Rattle.std.proofs.Common.{◌∙◌, arith, rules}
-use Rattle.prime.proofs.Laws.{differ-pair}
+use Rattle.prime.proofs.Laws.{differ_pair}
 use Rattle.prime.proofs.Mixings.{evenodd_unpaired}
 use Rattle.diagonal.specs.Facts.{sizes_of}
 use Rattle.diagonal.proofs.evenodd.EvenOddCode.unpair.Goals as goal
@@ -12,7 +12,7 @@ solve-pair-requires c =
       some = omega arith;
       low = omega arith;
       other = omega arith;
-      apart = differ-pair g.prime g.indivisible c.args.i c.args.j (omega arith) (omega arith) c.if-i-j.false;
+      apart = differ_pair g.prime g.indivisible c.args.i c.args.j (omega arith) (omega arith) c.if-i-j.false;
     }
 
 pub returns : goal.returns

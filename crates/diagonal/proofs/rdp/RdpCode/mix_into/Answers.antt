@@ -1,7 +1,7 @@
 use Rattle.std.proofs.Common.{ℕ, ap, ◌∙◌, rules}
 use Rattle.code.specs.Blocks.{◌⊕◌}
 use Rattle.prime.specs.Rows.{shifted}
-use Rattle.prime.proofs.Mixings.{rdp-mixed}
+use Rattle.prime.proofs.Mixings.{rdp_mixed}
 use Rattle.diagonal.specs.Facts.{sizes_of}
 use Rattle.diagonal.proofs.rdp.RdpCode.mix_into.Goals as goal
 
@@ -10,6 +10,6 @@ returns c =
     let g = c.args.self.now.grid in
     record {
       answered = search rules;
-      after = rdp-mixed g.prime g.width 512 (sizes_of g) c.args.j c.args.block.now c.args.into.now c.add-shifted.new.into c.add-shifted-2.new.into
+      after = rdp_mixed g.prime g.width 512 (sizes_of g) c.args.j c.args.block.now c.args.into.now c.add-shifted.new.into c.add-shifted-2.new.into
           (c.add-shifted.ensures.after ∙ ap (λ (s : ℕ). c.args.into.now ⊕ shifted g.prime g.width s c.args.block.now) c.fold.ensures.value) c.add-shifted-2.ensures.after;
     }

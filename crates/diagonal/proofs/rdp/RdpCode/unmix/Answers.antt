@@ -1,5 +1,5 @@
 use Rattle.std.proofs.Common.{arith, rules}
-use Rattle.prime.proofs.Laws.{differ-one}
+use Rattle.prime.proofs.Laws.{differ_one}
 use Rattle.diagonal.specs.Facts.{sizes_of}
 use Rattle.diagonal.proofs.rdp.RdpCode.unmix.Goals as goal
 
@@ -11,5 +11,5 @@ solve-pair-requires c =
       some = omega arith;
       low = omega arith;
       other = omega (arith, (sizes_of g).big);
-      apart = differ-one g.prime g.indivisible c.args.j (omega arith);
+      apart = differ_one g.prime g.indivisible c.args.j (omega arith);
     }

@@ -1,5 +1,5 @@
 use Rattle.std.proofs.Common.{arith, rules}
-use Rattle.prime.proofs.Laws.{differ-pair}
+use Rattle.prime.proofs.Laws.{differ_pair}
 use Rattle.diagonal.proofs.rdp.RdpCode.unpair.Goals as goal
 
 pub solve-pair-requires : goal.solve-pair-requires
@@ -10,5 +10,5 @@ solve-pair-requires c =
       some = omega arith;
       low = omega arith;
       other = omega arith;
-      apart = differ-pair g.prime g.indivisible c.args.i c.args.j (omega arith) (omega arith) c.if-i-j.false;
+      apart = differ_pair g.prime g.indivisible c.args.i c.args.j (omega arith) (omega arith) c.if-i-j.false;
     }

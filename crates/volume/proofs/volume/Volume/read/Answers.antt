@@ -8,7 +8,7 @@ use Rattle.contents.proofs.Losing.{losses}
 use Rattle.volume.specs.declared.size.Size.{Size}
 use Rattle.volume.specs.Sizes.{Fitting, shape_at}
 use Rattle.volume.specs.Slots.{members_of, frontier_of}
-use Rattle.volume.proofs.Answering.{valid_at, ReadDone, read_short, read-beyond, read-within, factor}
+use Rattle.volume.proofs.Answering.{valid_at, ReadDone, read_short, read_beyond, read_within, factor}
 use Rattle.volume.proofs.volume.Volume.read.Goals as goal
 
 pub block-count-requires : goal.block-count-requires
@@ -42,7 +42,7 @@ returns-then-block-block-count g c =
     let old = c.args.buffer.now in
     let a = c.args.block in
     let l : z.stripes * (z.slots - 2) ≤ a = subst (λ (x : ℕ). x ≤ a) c.block-count.ensures.value c.if-block-block-count.true in
-    let d = subst (λ (x : Size). ReadDone (V x) M F a old old (Err (plain 2))) e (read-beyond (V z) M F a old c.if-buffer-ne-BLOCK.false l) in
+    let d = subst (λ (x : Size). ReadDone (V x) M F a old old (Err (plain 2))) e (read_beyond (V z) M F a old c.if-buffer-ne-BLOCK.false l) in
     record { answered = d.answered; after = d.after; same = refl; kept = record { code = refl; layout = refl; size = refl; table = refl }; loss = losses _ M F; right = reads _ valid M F }
 
 pub overflow-sub-k : goal.overflow-sub-k
@@ -74,5 +74,5 @@ returns g c =
     let a = c.args.block in
     let l : a < z.stripes * (z.slots - 2) = subst (λ (x : ℕ). a < x) c.block-count.ensures.value c.if-block-block-count.false in
     let d = subst (λ (x : Size). ReadDone (V x) M F a old c.read-column.new.into (outcome c.read-column.result)) e
-    (read-within (V z) M F a old c.if-buffer-ne-BLOCK.false l c.read-column.result c.read-column.new.into c.read-column.ensures.answered c.read-column.ensures.after) in
+    (read_within (V z) M F a old c.if-buffer-ne-BLOCK.false l c.read-column.result c.read-column.new.into c.read-column.ensures.answered c.read-column.ensures.after) in
     record { answered = d.answered; after = d.after; same = c.read-column.ensures.same; kept = record { code = refl; layout = refl; size = refl; table = refl }; loss = losses _ M F; right = reads _ valid M F }

@@ -5,7 +5,7 @@ use Rattle.contents.proofs.Losing.{losses}
 use Rattle.volume.specs.declared.size.Size.{Size}
 use Rattle.volume.specs.Sizes.{Fitting, shape_at}
 use Rattle.volume.specs.Slots.{members_of, frontier_of}
-use Rattle.volume.proofs.Answering.{valid_at, ScrubDone, scrub-beyond, scrub-within}
+use Rattle.volume.proofs.Answering.{valid_at, ScrubDone, scrub_beyond, scrub_within}
 use Rattle.volume.proofs.volume.Volume.scrub.Goals as goal
 
 pub returns-then-stripe-size : goal.returns-then-stripe-size
@@ -19,7 +19,7 @@ returns-then-stripe-size g c =
     let e = c.size-with-size.ensures.value in
     let valid = valid_at C (g.met.C.Code.lawful v.code) (g.L.Layout.slot v.layout) (g.L.Layout.column v.layout) (g.met.L.Layout.lawful v.layout) _ (subst (Fitting C.limit) e c.size-with-size.ensures.fitting) in
     let s = c.args.stripe in
-    let d = subst (λ (x : Size). ScrubDone (V x) M F s M (Err (plain 2))) e (scrub-beyond (V z) M F s c.if-stripe-size.true) in
+    let d = subst (λ (x : Size). ScrubDone (V x) M F s M (Err (plain 2))) e (scrub_beyond (V z) M F s c.if-stripe-size.true) in
     record { answered = d.answered; changes = d.changes; kept = record { code = refl; layout = refl; size = refl; table = refl }; loss = losses _ M F; right = λ room. scrubs _ valid M F room s M d.changes }
 
 pub scrub-stripe-requires : goal.scrub-stripe-requires
@@ -38,5 +38,5 @@ returns g c =
     let valid = valid_at C (g.met.C.Code.lawful v.code) (g.L.Layout.slot v.layout) (g.L.Layout.column v.layout) (g.met.L.Layout.lawful v.layout) _ (subst (Fitting C.limit) e c.size-with-size.ensures.fitting) in
     let s = c.args.stripe in
     let d = subst (λ (x : Size). ScrubDone (V x) M F s N (outcome c.scrub-stripe.result)) e
-    (scrub-within (V z) M F s c.if-stripe-size.false N c.scrub-stripe.result c.scrub-stripe.ensures.answered c.scrub-stripe.ensures.taken c.scrub-stripe.ensures.refused) in
+    (scrub_within (V z) M F s c.if-stripe-size.false N c.scrub-stripe.result c.scrub-stripe.ensures.answered c.scrub-stripe.ensures.taken c.scrub-stripe.ensures.refused) in
     record { answered = d.answered; changes = d.changes; kept = record { code = refl; layout = refl; size = refl; table = refl }; loss = losses _ M F; right = λ room. scrubs _ valid M F room s N d.changes }

@@ -19,7 +19,7 @@ use Rattle.volume.specs.declared.size.Size.{Size}
 use Rattle.volume.specs.Sizes.{Fitting, size_of, shape_at}
 use Rattle.volume.specs.Slots.{members_of, records_of}
 use Rattle.volume.proofs.Answering.{valid_at}
-use Rattle.volume.proofs.Rebuilding.{StepDone, step-failed, step-made, open_some, column_answer}
+use Rattle.volume.proofs.Rebuilding.{StepDone, step_failed, step_made, open_some, column_answer}
 use Rattle.volume.proofs.volume.Volume.step.Goals as goal
 
 pub returns-in-err-rebuild-column : goal.returns-in-err-rebuild-column
@@ -47,7 +47,7 @@ returns-in-err-rebuild-column g c =
     let t = told c.in-err-rebuild-column.field-0.0 in
     let done : Roomy V M → StepDone V M R i N R (Err t) = λ room.
     subst (λ (y : Size). StepDone (shape_at C slot column y) M R i N R (Err t)) e
-    (step-failed W M R i here.0 left N moved same t
+    (step_failed W M R i here.0 left N moved same t
     (sym (ap outcome c.in-err-rebuild-column.was) ∙ subst (λ (x : ℕ). outcome c.rebuild-column.result ≡ cond (lossy W M F x) (Err (with_loss 4 (loss_at W M F x))) (column_answer (write_refusal (M i) x block_size) x)) (sym at) (c.rebuild-column.ensures.answered (subst (λ (y : Size). Roomy (shape_at C slot column y) M) (sym e) room)))) in
     record {
       answered = λ room. ap outcome p.1 ∙ ap (λ (x : Refusal). outcome (Err x)) p.2 ∙ (done room).answered;
@@ -81,7 +81,7 @@ returns g c =
     let Q = records_of c.change.new.self.rows in
     let done : Roomy V M → StepDone V M R i N Q (outcome c.change.result) = λ room.
     subst (λ (y : Size). StepDone (shape_at C slot column y) M R i N Q (outcome c.change.result)) e
-    (step-made W M R i here.0 left N moved same
+    (step_made W M R i here.0 left N moved same
     (sym (ap outcome c.in-ok-rebuild-column.was) ∙ subst (λ (x : ℕ). outcome c.rebuild-column.result ≡ cond (lossy W M F x) (Err (with_loss 4 (loss_at W M F x))) (column_answer (write_refusal (M i) x block_size) x)) (sym at) (c.rebuild-column.ensures.answered (subst (λ (y : Size). Roomy (shape_at C slot column y) M) (sym e) room)))
     Q (outcome c.change.result) c.change.ensures.records c.change.ensures.answered) in
     record {

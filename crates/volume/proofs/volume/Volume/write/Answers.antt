@@ -4,12 +4,12 @@ use Rattle.contents.specs.Shapes.{Shape, Valid}
 use Rattle.contents.specs.Refusals.{plain, outcome}
 use Rattle.contents.specs.Theorems.{Writing}
 use Rattle.contents.proofs.Writing.{writes}
-use Rattle.contents.proofs.Fitting.{stripe-below, column_below}
+use Rattle.contents.proofs.Fitting.{stripe_below, column_below}
 use Rattle.contents.proofs.Losing.{losses}
 use Rattle.volume.specs.declared.size.Size.{Size}
 use Rattle.volume.specs.Sizes.{Fitting, shape_at}
 use Rattle.volume.specs.Slots.{members_of, frontier_of}
-use Rattle.volume.proofs.Answering.{valid_at, WriteDone, write-short, write-beyond, write-within, factor}
+use Rattle.volume.proofs.Answering.{valid_at, WriteDone, write_short, write_beyond, write_within, factor}
 use Rattle.volume.proofs.volume.Volume.write.Goals as goal
 
 pub block-count-requires : goal.block-count-requires
@@ -27,7 +27,7 @@ returns-then-bytes-ne-BLOCK g c =
     let valid = valid_at C (g.met.C.Code.lawful v.code) (g.L.Layout.slot v.layout) (g.L.Layout.column v.layout) (g.met.L.Layout.lawful v.layout) _ (subst (Fitting C.limit) e c.size-with-size.ensures.fitting) in
     let old = c.args.bytes.now in
     let a = c.args.block in
-    let d = subst (λ (x : Size). WriteDone (V x) M F a old M (Err (plain 3))) e (write-short (V z) M F a old c.if-bytes-ne-BLOCK.true) in
+    let d = subst (λ (x : Size). WriteDone (V x) M F a old M (Err (plain 3))) e (write_short (V z) M F a old c.if-bytes-ne-BLOCK.true) in
     record { answered = d.answered; changes = d.changes; kept = record { code = refl; layout = refl; size = refl; table = refl }; loss = losses _ M F; right = λ room. writes _ valid M F room a old M (record { long = refl; bytes = λ i. (c.type-inv.bytes i).fits }) d.changes }
 
 pub returns-then-block-block-count : goal.returns-then-block-block-count
@@ -43,7 +43,7 @@ returns-then-block-block-count g c =
     let old = c.args.bytes.now in
     let a = c.args.block in
     let l : z.stripes * (z.slots - 2) ≤ a = subst (λ (x : ℕ). x ≤ a) c.block-count.ensures.value c.if-block-block-count.true in
-    let d = subst (λ (x : Size). WriteDone (V x) M F a old M (Err (plain 2))) e (write-beyond (V z) M F a old c.if-bytes-ne-BLOCK.false l) in
+    let d = subst (λ (x : Size). WriteDone (V x) M F a old M (Err (plain 2))) e (write_beyond (V z) M F a old c.if-bytes-ne-BLOCK.false l) in
     record { answered = d.answered; changes = d.changes; kept = record { code = refl; layout = refl; size = refl; table = refl }; loss = losses _ M F; right = λ room. writes _ valid M F room a old M (record { long = refl; bytes = λ i. (c.type-inv.bytes i).fits }) d.changes }
 
 pub overflow-sub-k : goal.overflow-sub-k
@@ -65,7 +65,7 @@ write-column-requires g c =
     let l : c.args.block < z.stripes * (z.slots - 2) = subst (λ (x : ℕ). c.args.block < x) c.block-count.ensures.value c.if-block-block-count.false in
     record {
       fitting = c.size-with-size.ensures.fitting;
-      within = (stripe-below V valid c.args.block l, column_below V valid c.args.block l);
+      within = (stripe_below V valid c.args.block l, column_below V valid c.args.block l);
       sized = c.if-bytes-ne-BLOCK.false;
     }
 
@@ -84,5 +84,5 @@ returns g c =
     let N = members_of (g.B.Bank.meaning (g.B.Bank.state c.write-column.new.bank)) in
     let l : a < z.stripes * (z.slots - 2) = subst (λ (x : ℕ). a < x) c.block-count.ensures.value c.if-block-block-count.false in
     let d = subst (λ (x : Size). WriteDone (V x) M F a old N (outcome c.write-column.result)) e
-    (write-within (V z) M F a old c.if-bytes-ne-BLOCK.false l N c.write-column.result c.write-column.ensures.answered c.write-column.ensures.taken c.write-column.ensures.refused) in
+    (write_within (V z) M F a old c.if-bytes-ne-BLOCK.false l N c.write-column.result c.write-column.ensures.answered c.write-column.ensures.taken c.write-column.ensures.refused) in
     record { answered = d.answered; changes = d.changes; kept = record { code = refl; layout = refl; size = refl; table = refl }; loss = losses _ M F; right = λ room. writes _ valid M F room a old N (record { long = refl; bytes = λ i. (c.type-inv.bytes i).fits }) d.changes }

@@ -7,21 +7,21 @@ use Rattle.contents.specs.Changes.{Moved, Steps}
 use Rattle.volume.specs.Slots.{columns_in, members_of, frontier_of}
 use Rattle.volume.specs.Tallies.{tally_of}
 use Rattle.volume.proofs.Walking.{written_moved}
-use Rattle.volume.proofs.Scrubbing.{mends, unreadable_missing, scrub-none, scrub-skip, scrub-write, not_yet, write_takes_is, tally-none, tally-skip, tally-mend, tally-low}
+use Rattle.volume.proofs.Scrubbing.{mends, unreadable_missing, scrub_none, scrub_skip, scrub_write, not_yet, write_takes_is, tally_none, tally_skip, tally_mend, tally_low}
 use Rattle.volume.proofs.volume.scrubs.+scrub_slots.Goals as goal
 
 pub returns-then-i-eq0 : goal.returns-then-i-eq0
 returns-then-i-eq0 g t c =
     let M = members_of (g.B.Bank.meaning (g.B.Bank.state c.args.bank.now)) in
     let F = frontier_of c.args.table.now.rows in
-    record { steps = scrub-none M F c.args.s _ c.args.i c.if-i-eq0.true; tally = tally-none M F c.args.s c.args.i c.if-i-eq0.true }
+    record { steps = scrub_none M F c.args.s _ c.args.i c.if-i-eq0.true; tally = tally_none M F c.args.s c.args.i c.if-i-eq0.true }
 
 pub with-standing-requires : goal.with-standing-requires
 with-standing-requires g t c =
     let M = members_of (g.B.Bank.meaning (g.B.Bank.state c.args.bank.now)) in
     let F = frontier_of c.args.table.now.rows in
     let l : c.args.i - 1 ≤ 18 = omega (arith, c.requires.shape.1, c.requires.shape.3) in
-    record { low = (tally-low M F c.args.s (c.args.i - 1) c.scrub-slots.result l c.scrub-slots.ensures.tally).2 }
+    record { low = (tally_low M F c.args.s (c.args.i - 1) c.scrub-slots.result l c.scrub-slots.ensures.tally).2 }
 
 pub returns-then-not-is-unreadable : goal.returns-then-not-is-unreadable
 returns-then-not-is-unreadable g t c =
@@ -34,8 +34,8 @@ returns-then-not-is-unreadable g t c =
     let e : c.args.i ≡ j + 1 = omega (arith, c.if-i-eq0.false) in
     let u : is_unreadable (status M F s j) ≡ false = sym (c.if-not-is-unreadable.ensures.value ∙ ap is_unreadable c.status-of-how.ensures.value) in
     record {
-      steps = scrub-skip M F s (λ (x : ℕ). recovered (g.C.Code.coding c.args.code.now) (c.args.n - 2) (columns_in ms c.args.table.now.rows (g.L.Layout.slot c.args.layout.now) c.args.n s) (g.L.Layout.column c.args.layout.now c.args.n s x)) c.args.i j N e c.scrub-slots.ensures.steps u;
-      tally = tally-skip M F s c.args.i j c.status-of-how.result c.scrub-slots.result c.with_standing.result e c.status-of-how.ensures.value u c.scrub-slots.ensures.tally c.with_standing.ensures.value;
+      steps = scrub_skip M F s (λ (x : ℕ). recovered (g.C.Code.coding c.args.code.now) (c.args.n - 2) (columns_in ms c.args.table.now.rows (g.L.Layout.slot c.args.layout.now) c.args.n s) (g.L.Layout.column c.args.layout.now c.args.n s x)) c.args.i j N e c.scrub-slots.ensures.steps u;
+      tally = tally_skip M F s c.args.i j c.status-of-how.result c.scrub-slots.result c.with_standing.result e c.status-of-how.ensures.value u c.scrub-slots.ensures.tally c.with_standing.ensures.value;
     }
 
 pub rebuild-requires : goal.rebuild-requires
@@ -59,7 +59,7 @@ with-mend-requires g t c =
     let M = members_of (g.B.Bank.meaning (g.B.Bank.state c.rebuild.new.bank)) in
     let F = frontier_of c.args.table.now.rows in
     let l : c.args.i - 1 ≤ 18 = omega (arith, c.requires.shape.1, c.requires.shape.3) in
-    let h = tally-low M F c.args.s (c.args.i - 1) c.scrub-slots-tally.result l c.scrub-slots-tally.ensures.tally in
+    let h = tally_low M F c.args.s (c.args.i - 1) c.scrub-slots-tally.result l c.scrub-slots-tally.ensures.tally in
     record { low = (h.0, h.1) }
 
 pub returns : goal.returns
@@ -83,6 +83,6 @@ returns g t c =
     let h = subst (λ (x : List ℕ). Moved (λ a b. Written a s x b) j N O) v (written_moved s c.rebuild.new.into _ _ j c.write.ensures.after) in
     let ok = write_takes_is ns j s (length c.rebuild.new.into) (M j) c.write.result c.is-ok.result c.rebuild.auto.into (not_yet M F s (col ms) j N w) c.write.ensures.answered c.is-ok.ensures.value in
     record {
-      steps = scrub-write M F s (col ms) c.args.i j N O e w u h;
-      tally = tally-mend M F s c.args.i j c.is-ok.result c.scrub-slots-tally.result c.with_mend.result e ok u t0 c.with_mend.ensures.value;
+      steps = scrub_write M F s (col ms) c.args.i j N O e w u h;
+      tally = tally_mend M F s c.args.i j c.is-ok.result c.scrub-slots-tally.result c.with_mend.result e ok u t0 c.with_mend.ensures.value;
     }

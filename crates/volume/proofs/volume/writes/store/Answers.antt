@@ -2,7 +2,7 @@ use Rattle.std.proofs.Common.{◌≡◌, ℕ, sym, refl, ap, ◌∙◌, subst}
 use Rattle.contents.specs.Changes.{Moved, Put, due}
 use Rattle.volume.specs.Slots.{members_of, frontier_of}
 use Rattle.volume.proofs.Walking.{written_moved}
-use Rattle.volume.proofs.Storing.{stored-below, stored-beyond}
+use Rattle.volume.proofs.Storing.{stored_below, stored_beyond}
 use Rattle.volume.proofs.volume.writes.store.Goals as goal
 
 pub returns-then-has : goal.returns-then-has
@@ -14,7 +14,7 @@ returns-then-has g c =
     let v = c.args.bytes.now in
     record {
       stored = subst (λ (i : ℕ). Moved (Put (due M F s i) s v) i M N) c.slot-of-slot.ensures.value
-          (stored-below M F s c.slot-of-slot.result v N (sym c.if-has.ensures.value) (written_moved s v _ _ _ c.write.ensures.after));
+          (stored_below M F s c.slot-of-slot.result v N (sym c.if-has.ensures.value) (written_moved s v _ _ _ c.write.ensures.after));
     }
 
 pub returns-else-has : goal.returns-else-has
@@ -24,5 +24,5 @@ returns-else-has g c =
     let s = c.args.s in
     let v = c.args.bytes.now in
     record {
-      stored = subst (λ (i : ℕ). Moved (Put (due M F s i) s v) i M M) c.slot-of-slot.ensures.value (stored-beyond M F s c.slot-of-slot.result v (sym c.if-has.ensures.value));
+      stored = subst (λ (i : ℕ). Moved (Put (due M F s i) s v) i M M) c.slot-of-slot.ensures.value (stored_beyond M F s c.slot-of-slot.result v (sym c.if-has.ensures.value));
     }
