@@ -1,5 +1,6 @@
 // The field of 256 elements and the laws of the code P+Q over it: theorems, each on the contract of a function.
 #![tactic(auto)]
+
 ghost use Rattle.field.specs.Theorems.{Divided, Generated, PqIsLawful};
 
 // A product, each shift reduced, is the product of polynomials modulo 0x11D.

@@ -1,5 +1,6 @@
 // Layouts: on which slot each column of a stripe lies.
 #![tactic(auto)]
+
 ghost use Rattle.std.specs.Prelude.{◌≡◌, ℕ};
 ghost use Rattle.layout.specs.Placing.{Placing, rotated, unrotated};
 ghost use Rattle.std.proofs.Common.{rules};

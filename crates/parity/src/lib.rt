@@ -1,5 +1,6 @@
 // What a stripe of k data columns with P and Q is, and the theorems on its recovery that hold of every lawful code.
 #![tactic(auto)]
+
 ghost use Rattle.parity.specs.Theorems.{Recovers, Unique, Free, Deltas, Writes};
 
 // How a lost column is found from the plain sum (the present data columns and P) and the mixed sum (their mixings and Q).

@@ -1,5 +1,6 @@
 // The mathematics of the diagonal codes: rows of a block counted modulo a prime, RDP and EVENODD, and their laws.
 #![tactic(auto)]
+
 ghost use Rattle.prime.specs.Diagonals.{DiagonalCodesAreLawful};
 
 // States that RDP and EVENODD keep the laws of a code over every odd prime; the answer itself says nothing.

@@ -12,8 +12,8 @@ returns-then-a-eq0 c = record {
   ];
 }
 
-pub overflow-add-log-of : goal.overflow-add-log-of
-overflow-add-log-of c = record { fits = omega (arith, log_lt c.args.a, log_lt c.args.b) }
+pub overflow_add-log_of : goal.overflow_add-log_of
+overflow_add-log_of c = record { fits = omega (arith, log_lt c.args.a, log_lt c.args.b) }
 
 pub returns : goal.returns
 returns c =
@@ -21,7 +21,7 @@ returns c =
     let b = c.args.b in
     record {
       value =
-          c.power-of.ensures.value ∙ ap₂ (λ m n. power (m + n)) c.log-of.ensures.value c.log-of-2.ensures.value
+          c.power_of.ensures.value ∙ ap₂ (λ m n. power (m + n)) c.log_of.ensures.value c.log_of-2.ensures.value
           ∙ sym (times_powers (log a) (log b))
           ∙ ap₂ times (power_log a (omega arith) c.ranges.a.fits) (power_log b (omega arith) c.ranges.b.fits);
     }

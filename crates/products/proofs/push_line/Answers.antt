@@ -10,8 +10,8 @@ loop-b-init c = none (λ b. hex (times c.args.a b)) (string_bytes c.args.text.no
 pub loop-b-preserved : goal.loop-b-preserved
 loop-b-preserved c =
     let was = string_bytes c.loop-b.text in
-    more (λ b. hex (times c.args.a b)) (string_bytes c.args.text.now) was (string_bytes c.push-hex.new.text) c.loop-b.b c.loop-b.invariant
-    (c.in-ok-push-hex.ensures.added ∙ ap (λ x. was ++ hex x) c.product.ensures.value)
+    more (λ b. hex (times c.args.a b)) (string_bytes c.args.text.now) was (string_bytes c.push_hex.new.text) c.loop-b.b c.loop-b.invariant
+    (c.in_ok-push_hex.ensures.added ∙ ap (λ x. was ++ hex x) c.product.ensures.value)
 
 pub returns : goal.returns
 returns c =
@@ -19,7 +19,7 @@ returns c =
     let whole : c.loop-b.b ≡ 256 = omega arith in
     record {
       added =
-          c.in-ok-push.ensures.bytes
+          c.in_ok-push.ensures.bytes
           ∙ ap₂ ◌++◌ (c.loop-b.invariant ∙ ap (λ n. old ++ row c.args.a n) whole) (c.push.ensures.ascii (lit< tt))
           ∙ append_assoc old (row c.args.a 256) (10 ∷ []);
     }

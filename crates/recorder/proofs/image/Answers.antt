@@ -6,5 +6,5 @@ use Rattle.recorder.proofs.image.Goals as goal
 pub returns : goal.returns
 returns c =
     let xs = vec_items c.args.script.now.bytes in
-    let z : vec_items c.in-ok-zeros.zeros ≡ replicate 4096 0 = search rules in
+    let z : vec_items c.in_ok-zeros.zeros ≡ replicate 4096 0 = search rules in
     record { made = c.stack.ensures.meaning ∙ ap (λ v. slot_meaning (image_meaning v) xs c.args.slot) (ap vec_items c.new.ensures.state ∙ z) }

@@ -6,6 +6,6 @@ pub returns : goal.returns
 returns c =
     record {
       made =
-          link_eq _ _ _ _ c.in-ok-third.ensures.made
-          (link_eq _ _ _ _ c.in-ok-fourth.ensures.made (link_eq _ _ _ _ c.in-ok-fifth.ensures.made refl));
+          link_eq _ _ _ _ c.in_ok-third.ensures.made
+          (link_eq _ _ _ _ c.in_ok-fourth.ensures.made (link_eq _ _ _ _ c.in_ok-fifth.ensures.made refl));
     }

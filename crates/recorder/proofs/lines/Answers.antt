@@ -11,7 +11,7 @@ loop-i-init g c = (refl, ran_none _ _ _ _ c.new-out.ensures.bytes)
 pub loop-i-preserved : goal.loop-i-preserved
 loop-i-preserved g c =
     let h = c.loop-i.invariant in
-    (c.step.ensures.same ∙ h.0, ran_more _ _ _ _ _ _ _ _ _ h.0 h.1 c.in-ok-step.ensures.made)
+    (c.step.ensures.same ∙ h.0, ran_more _ _ _ _ _ _ _ _ _ h.0 h.1 c.in_ok-step.ensures.made)
 
 pub returns : goal.returns
 returns g c =

@@ -13,7 +13,7 @@ returns g c =
     let C = g.C.Code.coding c.args.code in
     let xs = vec_items c.args.script.now.bytes in
     let parts = c.new.ensures in
-    let s = ap (λ b. (chain_means cell_means (chain_means cell_means (chain_means cell_means (chain_means image_means (chain_means image_means (chain_means image_means (λ _. no_members)))))) b)) parts.bank ∙ c.in-ok-bank.ensures.made in
+    let s = ap (λ b. (chain_means cell_means (chain_means cell_means (chain_means cell_means (chain_means image_means (chain_means image_means (chain_means image_means (λ _. no_members)))))) b)) parts.bank ∙ c.in_ok-bank.ensures.made in
     let f = c.format-volume.ensures in
     let ms = (chain_means cell_means (chain_means cell_means (chain_means cell_means (chain_means image_means (chain_means image_means (chain_means image_means (λ _. no_members)))))) c.new.result.bank) in
     record {

@@ -10,8 +10,8 @@ loop-i-init g c = (refl, planned_none _ _ _ c.new-layer.ensures.plan)
 
 pub loop-i-preserved : goal.loop-i-preserved
 loop-i-preserved g c = (
-  c.plan-entry.ensures.below ∙ c.loop-i.invariant.0,
-  planned_more (vec_items c.args.script.now.bytes) c.args.slot c.loop-i.i c.entry.result c.loop-i.layer.plan c.plan-entry.new.layer.plan c.entry.ensures.value c.loop-i.invariant.1 c.plan-entry.ensures.plan,
+  c.plan_entry.ensures.below ∙ c.loop-i.invariant.0,
+  planned_more (vec_items c.args.script.now.bytes) c.args.slot c.loop-i.i c.entry.result c.loop-i.layer.plan c.plan_entry.new.layer.plan c.entry.ensures.value c.loop-i.invariant.1 c.plan_entry.ensures.plan,
 )
 
 pub returns : goal.returns

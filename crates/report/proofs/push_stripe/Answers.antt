@@ -16,9 +16,9 @@ returns g c =
     let q : get_or blocks (n - 1) [] ≡ column C k (content blocks) (k + 1) = ap (λ x. get_or blocks x []) last ∙ whole.columns (k + 1) (omega arith) in
     record {
       made = four_parts (string_bytes c.args.out.now) _ _ _ _ _ _ _ _
-          c.in-ok-push-parity.ensures.made
-          c.in-ok-push-parity-2.ensures.made
-          c.in-ok-push-pairs.ensures.made
-          c.in-ok-push-count.ensures.made
+          c.in_ok-push_parity.ensures.made
+          c.in_ok-push_parity-2.ensures.made
+          c.in_ok-push_pairs.ensures.made
+          c.in_ok-push_count.ensures.made
           ∙ ap (λ x. string_bytes c.args.out.now ++ x) (report_is C k n (content blocks) _ _ p q (omega arith));
     }

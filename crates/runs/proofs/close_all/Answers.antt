@@ -31,5 +31,5 @@ returns g c =
     record {
       same = i.0;
       closes = closing_all (shape m c.args.volume.now) (state m c.args.volume.now) (state m c.loop-order.volume) (vec_items c.args.orders) (vec_items c.loop-order.orders)
-          (none_left (vec_items c.loop-order.orders) (omega (arith, whole.0, c.in-default.ensures.cases.0))) i.1;
+          (none_left (vec_items c.loop-order.orders) (omega (arith, whole.0, c.in_default.ensures.cases.0))) i.1;
     }

@@ -12,8 +12,8 @@ use Rattle.runs.proofs.run.Goals as goal
 
 pub loop-call-init : goal.loop-call-init
 loop-call-init g c =
-    let m = c.in-ok-log.ensures in
-    let room = c.in-ok-reserve.ensures.ok in
+    let m = c.in_ok-log.ensures in
+    let room = c.in_ok-reserve.ensures.ok in
     (m.len, ap length m.items, m.capacity, omega arith, refl, goes_nowhere _ _, refl, tt)
 
 pub obey-answer-requires : goal.obey-answer-requires
@@ -25,7 +25,7 @@ pub loop-call-preserved : goal.loop-call-preserved
 loop-call-preserved g c =
     let m = means g.C.Code.coding g.L.Layout.slot g.L.Layout.column g.B.Bank.state g.B.Bank.meaning in
     let i = c.loop-call.invariant in
-    let p = c.push-reserved.ensures.items in
+    let p = c.push_reserved.ensures.items in
     let lt : c.loop-call.call-index < length c.args.calls.now = c.loop-call-test.true in
     let x = c.obey-answer.ensures in
     let call = c.call-item.result in
@@ -39,21 +39,21 @@ loop-call-preserved g c =
     let w = c.obey-answer.new.volume in
     let more : take (n + 1) cs ≡ take n cs ++ call ∷ [] = take_more cs n call lt ∙ ap (λ (y : Call). take n cs ++ y ∷ []) (sym c.call-item.is) in
     let len : length (take n cs) ≡ length rs = length-take-le n cs (omega arith) ∙ sym i.1 in
-    let all : events os (take (n + 1) cs) (vec_items c.push-reserved.new.self) ≡ events os (take n cs) rs ++ event_of (vec_items c.loop-call.orders) call answer =
+    let all : events os (take (n + 1) cs) (vec_items c.push_reserved.new.self) ≡ events os (take n cs) rs ++ event_of (vec_items c.loop-call.orders) call answer =
     ap₂ (events os) more p ∙ events_push os (take n cs) rs call answer len ∙ ap (λ (l : List Order). events os (take n cs) rs ++ event_of l call answer) (sym i.6) in
-    let left : orders_left os (take (n + 1) cs) (vec_items c.push-reserved.new.self) ≡ orders_after (vec_items c.loop-call.orders) call answer =
+    let left : orders_left os (take (n + 1) cs) (vec_items c.push_reserved.new.self) ≡ orders_after (vec_items c.loop-call.orders) call answer =
     ap₂ (orders_left os) more p ∙ orders_push os (take n cs) rs call answer len ∙ ap (λ (l : List Order). orders_after l call answer) (sym i.6) in
     let long = length_push rs answer in
     let goes : Goes_on V (state m v) (event_of (vec_items c.loop-call.orders) call answer) (state m w) =
     subst (λ (W : Shape). Goes_on W (state m v) (event_of (vec_items c.loop-call.orders) call answer) (state m w)) i.4 x.goes in (
-      omega (arith, c.push-reserved.ensures.len, i.0),
+      omega (arith, c.push_reserved.ensures.len, i.0),
       ap length p ∙ long ∙ ap (λ (y : ℕ). y + 1) i.1,
-      omega (arith, c.push-reserved.ensures.capacity, i.2),
+      omega (arith, c.push_reserved.ensures.capacity, i.2),
       omega (arith, x.len, x.capacity, i.3),
       x.same ∙ i.4,
       subst (λ (l : List Event). Goes_on V (state m c.args.volume.now) l (state m w)) (sym all) (goes_further V (state m c.args.volume.now) (state m v) (state m w) _ _ i.5 goes),
       x.orders ∙ sym left,
-      subst (λ (l : List Call). AllMade os l (vec_items c.push-reserved.new.self)) (sym more)
+      subst (λ (l : List Call). AllMade os l (vec_items c.push_reserved.new.self)) (sym more)
           (subst (λ (l : List Answer). AllMade os (take n cs ++ call ∷ []) l) (sym p)
           (all_made_push os (take n cs) rs call answer len i.7 (x.made ∙ ap (λ (l : List Order). lacks l call) i.6))),
     )

@@ -33,18 +33,18 @@ returns-then-block-min c =
     let count = part_count xs c.args.images c.args.slot c.if-slot-images.false in
     let high : (image_meaning (part xs c.args.images c.args.slot)).count ≤ c.args.block = omega (arith, count, c.min.ensures) in
     record {
-      answered = ap Some c.no-block.ensures.value ∙ sym (block_beyond xs c.args.images c.args.slot c.args.block c.args.size c.if-slot-images.false c.if-size-ne-BLOCK.false high);
+      answered = ap Some c.no_block.ensures.value ∙ sym (block_beyond xs c.args.images c.args.slot c.args.block c.args.size c.if-slot-images.false c.if-size-ne-BLOCK.false high);
       found = tt;
     }
 
-pub overflow-mul-start-2 : goal.overflow-mul-start-2
-overflow-mul-start-2 c =
+pub overflow_mul-start-2 : goal.overflow_mul-start-2
+overflow_mul-start-2 c =
     let fit = room c.args.run.now c.args.images c.args.slot c.if-slot-images.false in
     let small : c.args.slot * span c.args.run.now c.args.images < 2 ^ 64 = omega (arith, fit) in
     search rules
 
-pub overflow-add-result : goal.overflow-add-result
-overflow-add-result c =
+pub overflow_add-result : goal.overflow_add-result
+overflow_add-result c =
     let fit = room c.args.run.now c.args.images c.args.slot c.if-slot-images.false in
     let small : c.args.slot * span c.args.run.now c.args.images + span c.args.run.now c.args.images < 2 ^ 64 = omega (arith, fit) in
     search rules

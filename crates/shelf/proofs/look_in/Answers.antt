@@ -10,17 +10,17 @@ returns-then-block-ge-MOST-BLOCKS c =
     let there = c.if-slot-images.false in
     let count = part_count xs c.args.images c.args.slot there in
     let high : (image_meaning (part xs c.args.images c.args.slot)).count ≤ c.args.block = omega (arith, count) in
-    record { answered = ap Some c.no-block.ensures.value ∙ sym (block_beyond xs c.args.images c.args.slot c.args.block 512 there refl high) }
+    record { answered = ap Some c.no_block.ensures.value ∙ sym (block_beyond xs c.args.images c.args.slot c.args.block 512 there refl high) }
 
-pub returns-then-saturating-mul-run : goal.returns-then-saturating-mul-run
-returns-then-saturating-mul-run c =
+pub returns-then-saturating_mul-run : goal.returns-then-saturating_mul-run
+returns-then-saturating_mul-run c =
     let xs = c.args.run.now in
     let there = c.if-slot-images.false in
     let count = part_count xs c.args.images c.args.slot there in
     let share : (length xs / 512) / c.args.images ≤ c.args.block =
-    beyond_share (length xs / 512) c.args.images c.args.block c.saturating-mul.result (omega arith) c.saturating-mul.ensures (omega arith) in
+    beyond_share (length xs / 512) c.args.images c.args.block c.saturating_mul.result (omega arith) c.saturating_mul.ensures (omega arith) in
     let high : (image_meaning (part xs c.args.images c.args.slot)).count ≤ c.args.block = omega (arith, count, share) in
-    record { answered = ap Some c.no-block-then-saturating-mul-run.ensures.value ∙ sym (block_beyond xs c.args.images c.args.slot c.args.block 512 there refl high) }
+    record { answered = ap Some c.no_block-then-saturating_mul-run.ensures.value ∙ sym (block_beyond xs c.args.images c.args.slot c.args.block 512 there refl high) }
 
 pub returns : goal.returns
 returns c =
@@ -28,6 +28,6 @@ returns c =
     let there = c.if-slot-images.false in
     let count = part_count xs c.args.images c.args.slot there in
     let share : c.args.block < (length xs / 512) / c.args.images =
-    below_share (length xs / 512) c.args.images c.args.block c.saturating-mul.result (omega arith) (omega arith) c.saturating-mul.ensures (omega arith) in
+    below_share (length xs / 512) c.args.images c.args.block c.saturating_mul.result (omega arith) (omega arith) c.saturating_mul.ensures (omega arith) in
     let low : c.args.block < (image_meaning (part xs c.args.images c.args.slot)).count = omega (arith, count, share) in
     record { answered = sym (block_found xs c.args.images c.args.slot c.args.block 512 there refl low) }

@@ -13,12 +13,12 @@ returns-then-load g c =
     let o = columns_in (g.B.Bank.meaning (g.B.Bank.state c.args.bank.now)) c.args.table.now.rows (g.L.Layout.slot c.args.layout.now) c.args.n c.args.s t in
     let h = loaded o c.args.scratch.now c.load.new.into c.if-load.ensures.current c.load.ensures.after in
     let lt : t < k + 2 = omega (arith, c.requires.shape.0, c.requires.shape.2) in
-    let ok : is_ok c.add-column.result ≡ true =
-    column_ok C.limit k t c.load.new.into c.args.plain.now c.args.mixed.now c.add-column.result c.requires.shape.1 lt (c.load.auto.into ∙ c.requires.sizes.0) c.requires.sizes.1 c.requires.sizes.2 c.add-column.ensures.answered in
+    let ok : is_ok c.add_column.result ≡ true =
+    column_ok C.limit k t c.load.new.into c.args.plain.now c.args.mixed.now c.add_column.result c.requires.shape.1 lt (c.load.auto.into ∙ c.requires.sizes.0) c.requires.sizes.1 c.requires.sizes.2 c.add_column.ensures.answered in
     record {
       same = c.load.ensures.same;
-      plain = added (is_ok c.add-column.result) (takes_plain c.args.way) (plain_part k t) o c.load.new.into c.args.plain.now c.add-column.new.plain ok h c.add-column.ensures.plain;
-      mixed = added (is_ok c.add-column.result) (takes_mixed c.args.way) (mixed_part C k t) o c.load.new.into c.args.mixed.now c.add-column.new.mixed ok h c.add-column.ensures.mixed;
+      plain = added (is_ok c.add_column.result) (takes_plain c.args.way) (plain_part k t) o c.load.new.into c.args.plain.now c.add_column.new.plain ok h c.add_column.ensures.plain;
+      mixed = added (is_ok c.add_column.result) (takes_mixed c.args.way) (mixed_part C k t) o c.load.new.into c.args.mixed.now c.add_column.new.mixed ok h c.add_column.ensures.mixed;
     }
 
 pub returns-else-load : goal.returns-else-load

@@ -12,8 +12,8 @@ use Rattle.volume.proofs.gather.Goals as goal
 pub loop-t-init : goal.loop-t-init
 loop-t-init g c = (refl, refl, needed_none _ _ _ (sum_none _) c.requires.empty.0, needed_none _ _ _ (sum_none _) c.requires.empty.1)
 
-pub add-current-requires : goal.add-current-requires
-add-current-requires g c = record {
+pub add_current-requires : goal.add_current-requires
+add_current-requires g c = record {
   shape = (c.requires.shape.0, c.requires.shape.1, omega arith);
   sizes = (c.loop-t.invariant.1, c.loop-t.auto.plain ∙ length_zeros _ c.requires.empty.0, c.loop-t.auto.mixed ∙ length_zeros _ c.requires.empty.1);
 }
@@ -24,10 +24,10 @@ loop-t-preserved g c =
     let k = c.args.n - 2 in
     let t = c.loop-t.t in
     let col = λ (ms : Slots). columns_in ms c.args.table.now.rows (g.L.Layout.slot c.args.layout.now) c.args.n c.args.s in
-    let p = c.add-current.ensures.plain ∙ ap (λ (ms : Slots). cond (takes_plain c.args.way) (c.loop-t.plain ⊕ if_present (plain_part k t) (col ms t)) c.loop-t.plain) c.loop-t.invariant.0 in
-    let q = c.add-current.ensures.mixed ∙ ap (λ (ms : Slots). cond (takes_mixed c.args.way) (c.loop-t.mixed ⊕ if_present (mixed_part C k t) (col ms t)) c.loop-t.mixed) c.loop-t.invariant.0 in (
-      c.add-current.ensures.same ∙ c.loop-t.invariant.0,
-      c.add-current.auto.scratch ∙ c.loop-t.invariant.1,
+    let p = c.add_current.ensures.plain ∙ ap (λ (ms : Slots). cond (takes_plain c.args.way) (c.loop-t.plain ⊕ if_present (plain_part k t) (col ms t)) c.loop-t.plain) c.loop-t.invariant.0 in
+    let q = c.add_current.ensures.mixed ∙ ap (λ (ms : Slots). cond (takes_mixed c.args.way) (c.loop-t.mixed ⊕ if_present (mixed_part C k t) (col ms t)) c.loop-t.mixed) c.loop-t.invariant.0 in (
+      c.add_current.ensures.same ∙ c.loop-t.invariant.0,
+      c.add_current.auto.scratch ∙ c.loop-t.invariant.1,
       needed_step _ _ _ _ _ c.loop-t.invariant.2 p,
       needed_step _ _ _ _ _ c.loop-t.invariant.3 q,
     )

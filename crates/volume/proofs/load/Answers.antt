@@ -10,7 +10,7 @@ returns-then-not-has g c =
     let ms = g.B.Bank.meaning (g.B.Bank.state c.args.bank.now) in
     let F = frontier_of c.args.table.now.rows in
     let h : held (members_of ms) F c.args.s (g.L.Layout.slot c.args.layout.now c.args.n c.args.s c.args.t) ≡ None =
-    ap (λ (i : ℕ). held (members_of ms) F c.args.s i) (sym c.slot-of-slot.ensures.value) ∙ behind_held ms F c.args.s c.slot-of-slot.result (sym c.if-not-has.ensures.value) in
+    ap (λ (i : ℕ). held (members_of ms) F c.args.s i) (sym c.slot_of-slot.ensures.value) ∙ behind_held ms F c.args.s c.slot_of-slot.result (sym c.if-not-has.ensures.value) in
     record { same = refl; current = sym (ap is_some h); after = sym (ap (λ (o : Option (List ℕ)). or_else o c.args.into.now) h) }
 
 pub returns : goal.returns
@@ -19,14 +19,14 @@ returns g c =
     let ms = g.B.Bank.meaning b in
     let F = frontier_of c.args.table.now.rows in
     let sound = g.met.B.Bank.lawful.means b (g.met.B.Bank.holds c.args.bank.now) in
-    let i = c.slot-of-slot.result in
+    let i = c.slot_of-slot.result in
     let s = c.args.s in
     let old = c.args.into.now in
     let below = sym c.if-not-has.ensures.value in
     record {
       same = c.read.ensures.same;
-      current = subst (λ (x : ℕ). c.is-ok.result ≡ is_some (held (members_of ms) F s x)) c.slot-of-slot.ensures.value
-          (load_current ms sound i s old c.requires.sized F below c.read.new.buffer c.read.result c.is-ok.result c.read.ensures.answered c.is-ok.ensures.value c.read.ensures.after);
-      after = subst (λ (x : ℕ). c.read.new.buffer ≡ or_else (held (members_of ms) F s x) old) c.slot-of-slot.ensures.value
-          (load_after ms sound i s old c.requires.sized F below c.read.new.buffer c.read.result c.is-ok.result c.read.ensures.answered c.is-ok.ensures.value c.read.ensures.after);
+      current = subst (λ (x : ℕ). c.is_ok.result ≡ is_some (held (members_of ms) F s x)) c.slot_of-slot.ensures.value
+          (load_current ms sound i s old c.requires.sized F below c.read.new.buffer c.read.result c.is_ok.result c.read.ensures.answered c.is_ok.ensures.value c.read.ensures.after);
+      after = subst (λ (x : ℕ). c.read.new.buffer ≡ or_else (held (members_of ms) F s x) old) c.slot_of-slot.ensures.value
+          (load_after ms sound i s old c.requires.sized F below c.read.new.buffer c.read.result c.is_ok.result c.read.ensures.answered c.is_ok.ensures.value c.read.ensures.after);
     }

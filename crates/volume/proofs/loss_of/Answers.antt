@@ -6,17 +6,17 @@ use Rattle.volume.proofs.loss_of.Goals as goal
 pub loop-slot-init : goal.loop-slot-init
 loop-slot-init g c = (loss_none _ _ _, refl)
 
-pub with-status-loss-requires : goal.with-status-loss-requires
-with-status-loss-requires g c =
+pub with_status-loss-requires : goal.with_status-loss-requires
+with_status-loss-requires g c =
     let h : c.loop-slot.slot < 18 = omega (arith, c.requires.few) in
     record { room = loss_room _ _ _ _ _ _ c.loop-slot.invariant.0 h c.loop-slot.invariant.1 }
 
-pub overflow-mul-bit : goal.overflow-mul-bit
-overflow-mul-bit g c =
+pub overflow_mul-bit : goal.overflow_mul-bit
+overflow_mul-bit g c =
     let h : c.loop-slot.slot < 18 = omega (arith, c.requires.few) in
     let b = bit_room _ _ h c.loop-slot.invariant.1 in
     omega arith
 
 pub loop-slot-preserved : goal.loop-slot-preserved
 loop-slot-preserved g c =
-    (loss_step _ _ _ _ _ _ _ _ c.status-of.ensures.value c.loop-slot.invariant.1 c.loop-slot.invariant.0 c.with-status-loss.ensures.value, bit_more _ _ _ c.loop-slot.invariant.1 refl)
+    (loss_step _ _ _ _ _ _ _ _ c.status_of.ensures.value c.loop-slot.invariant.1 c.loop-slot.invariant.0 c.with_status-loss.ensures.value, bit_more _ _ _ c.loop-slot.invariant.1 refl)

@@ -7,10 +7,10 @@ pub loop-t-init : goal.loop-t-init
 loop-t-init g c = told_none _
 
 pub loop-t-preserved : goal.loop-t-preserved
-loop-t-preserved g c = told_more _ _ _ _ c.has-column-here.result _ _ c.loop-t.invariant c.has-column-here.ensures.value c.note.ensures.after c.absent-missing.ensures.value
+loop-t-preserved g c = told_more _ _ _ _ c.has_column-here.result _ _ c.loop-t.invariant c.has_column-here.ensures.value c.note.ensures.after c.absent-missing.ensures.value
 
-pub overflow-add-missing : goal.overflow-add-missing
-overflow-add-missing g c = let a = at_most_one _ _ c.absent-missing.ensures.value in omega (arith, c.loop-t.invariant.low, c.requires.few.1)
+pub overflow_add-missing : goal.overflow_add-missing
+overflow_add-missing g c = let a = at_most_one _ _ c.absent-missing.ensures.value in omega (arith, c.loop-t.invariant.low, c.requires.few.1)
 
 pub returns : goal.returns
 returns g c =
@@ -21,7 +21,7 @@ returns g c =
     record {
       value = record {
         lost = h.lost;
-        p = c.has-column-p.ensures.value;
-        count = told_all cols k c.loop-t.missing _ _ _ _ h.count c.has-column-p.ensures.value c.has-column-q.ensures.value c.absent.ensures.value c.absent-2.ensures.value;
+        p = c.has_column-p.ensures.value;
+        count = told_all cols k c.loop-t.missing _ _ _ _ h.count c.has_column-p.ensures.value c.has_column-q.ensures.value c.absent.ensures.value c.absent-2.ensures.value;
       };
     }

@@ -5,5 +5,5 @@ use Rattle.diagonal.proofs.Grid.add_row.Goals as goal
 
 pub returns-then-row-eq-USUAL-WIDTH : goal.returns-then-row-eq-USUAL-WIDTH
 returns-then-row-eq-USUAL-WIDTH c = record {
-  after = c.xor-run.ensures.after ∙ ap (onto c.args.into.now) (take_all 32 c.args.row.now (omega arith));
+  after = c.xor_run.ensures.after ∙ ap (onto c.args.into.now) (take_all 32 c.args.row.now (omega arith));
 }

@@ -13,8 +13,8 @@ repeat-requires c = record {
 
 pub returns-then-r-self : goal.returns-then-r-self
 returns-then-r-self c = record {
-  after = row_everywhere c.args.self.now.prime c.args.self.now.width 512 (sizes_of c.args.self.now) c.args.r c.args.source.now c.row.result.now c.repeat.result c.args.into.now c.xor-run.new.into
-      c.requires.room c.row.ensures.value c.repeat.ensures.value c.xor-run.ensures.after;
+  after = row_everywhere c.args.self.now.prime c.args.self.now.width 512 (sizes_of c.args.self.now) c.args.r c.args.source.now c.row.result.now c.repeat.result c.args.into.now c.xor_run.new.into
+      c.requires.room c.row.ensures.value c.repeat.ensures.value c.xor_run.ensures.after;
 }
 
 pub returns-else-r-self : goal.returns-else-r-self

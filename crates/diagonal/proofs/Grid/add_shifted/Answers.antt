@@ -3,22 +3,22 @@ use Rattle.prime.proofs.Runs.{two_runs}
 use Rattle.diagonal.specs.Facts.{sizes_of}
 use Rattle.diagonal.proofs.Grid.add_shifted.Goals as goal
 
-pub slice-bounds-xor-run-count : goal.slice-bounds-xor-run-count
-slice-bounds-xor-run-count c = (sizes_of c.args.self.now).run c.args.s c.requires.shift
+pub slice_bounds-xor_run-count : goal.slice_bounds-xor_run-count
+slice_bounds-xor_run-count c = (sizes_of c.args.self.now).run c.args.s c.requires.shift
 
-pub slice-bounds-xor-run-start : goal.slice-bounds-xor-run-start
-slice-bounds-xor-run-start c = (sizes_of c.args.self.now).run c.args.s c.requires.shift
+pub slice_bounds-xor_run-start : goal.slice_bounds-xor_run-start
+slice_bounds-xor_run-start c = (sizes_of c.args.self.now).run c.args.s c.requires.shift
 
-pub slice-bounds-xor-run-end-2 : goal.slice-bounds-xor-run-end-2
-slice-bounds-xor-run-end-2 c = omega (arith, (sizes_of c.args.self.now).run c.saturating-sub.result (omega arith))
+pub slice_bounds-xor_run-end-2 : goal.slice_bounds-xor_run-end-2
+slice_bounds-xor_run-end-2 c = omega (arith, (sizes_of c.args.self.now).run c.saturating_sub.result (omega arith))
 
-pub overflow-sub-rest : goal.overflow-sub-rest
-overflow-sub-rest c = (sizes_of c.args.self.now).run c.saturating-sub.result (omega arith)
+pub overflow_sub-rest : goal.overflow_sub-rest
+overflow_sub-rest c = (sizes_of c.args.self.now).run c.saturating_sub.result (omega arith)
 
 pub returns : goal.returns
 returns c =
     let w = c.args.self.now.width in
     record {
-      after = two_runs c.args.self.now.prime w 512 (sizes_of c.args.self.now) c.args.s c.requires.shift c.args.block.now c.args.into.now c.xor-run.new.into c.xor-run-2.new.into (c.saturating-sub.result * w) c.requires.sized c.requires.room
-          (ap (λ (k : ℕ). k * w) c.saturating-sub.ensures) c.xor-run.ensures.after c.xor-run-2.ensures.after;
+      after = two_runs c.args.self.now.prime w 512 (sizes_of c.args.self.now) c.args.s c.requires.shift c.args.block.now c.args.into.now c.xor_run.new.into c.xor_run-2.new.into (c.saturating_sub.result * w) c.requires.sized c.requires.room
+          (ap (λ (k : ℕ). k * w) c.saturating_sub.ensures) c.xor_run.ensures.after c.xor_run-2.ensures.after;
     }

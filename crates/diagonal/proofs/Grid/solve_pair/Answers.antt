@@ -4,11 +4,11 @@ use Rattle.prime.proofs.Walks.{Stride, stride, walked_none, walked_more, walk_so
 use Rattle.diagonal.specs.Facts.{sizes_of}
 use Rattle.diagonal.proofs.Grid.solve_pair.Goals as goal
 
-pub overflow-add-v : goal.overflow-add-v
-overflow-add-v c = omega (arith, (sizes_of c.args.self.now).low)
+pub overflow_add-v : goal.overflow_add-v
+overflow_add-v c = omega (arith, (sizes_of c.args.self.now).low)
 
-pub overflow-add-self : goal.overflow-add-self
-overflow-add-self c = omega (arith, (sizes_of c.args.self.now).low)
+pub overflow_add-self : goal.overflow_add-self
+overflow_add-self c = omega (arith, (sizes_of c.args.self.now).low)
 
 pub loop-m-init : goal.loop-m-init
 loop-m-init c =
@@ -21,33 +21,33 @@ row-requires c =
     let g = c.args.self.now in
     record { within = omega (arith, (sizes_of g).run c.loop-m.r (low_r c.loop-m.invariant), (sizes_of g).short, c.close-given.ensures.long) }
 
-pub overflow-add-k : goal.overflow-add-k
-overflow-add-k c =
+pub overflow_add-k : goal.overflow_add-k
+overflow_add-k c =
     let g = c.args.self.now in
     omega (arith, (sizes_of g).low, c.loop-m.invariant.stride.low, low_k c.loop-m.invariant)
 
-pub overflow-add-r : goal.overflow-add-r
-overflow-add-r c =
+pub overflow_add-r : goal.overflow_add-r
+overflow_add-r c =
     let g = c.args.self.now in
     omega (arith, (sizes_of g).low, c.loop-m.invariant.stride.low, low_r c.loop-m.invariant)
 
 pub row-requires-in-loop-m : goal.row-requires-in-loop-m
-row-requires-in-loop-m c = record { within = omega (arith, (sizes_of c.args.self.now).short, c.add-row.auto.into, c.loop-m.invariant.room) }
+row-requires-in-loop-m c = record { within = omega (arith, (sizes_of c.args.self.now).short, c.add_row.auto.into, c.loop-m.invariant.room) }
 
-pub put-row-requires : goal.put-row-requires
-put-row-requires c =
+pub put_row-requires : goal.put_row-requires
+put_row-requires c =
     let g = c.args.self.now in
     record {
-      sized = length_row g.width 0 c.add-row.new.into c.row-in-loop-m.result.now (omega (arith, (sizes_of g).short, c.add-row.auto.into, c.loop-m.invariant.room)) c.row-in-loop-m.ensures.value;
+      sized = length_row g.width 0 c.add_row.new.into c.row-in-loop-m.result.now (omega (arith, (sizes_of g).short, c.add_row.auto.into, c.loop-m.invariant.room)) c.row-in-loop-m.ensures.value;
       within = omega (arith, (sizes_of g).within c.fold-k.result (next_within (sizes_of g) c.loop-m.invariant c.loop-m-test.true c.fold-k.ensures.value), c.loop-m.invariant.long);
     }
 
 pub loop-m-preserved : goal.loop-m-preserved
 loop-m-preserved c =
     let g = c.args.self.now in
-    walked_more (sizes_of g) c.loop-m.invariant c.loop-m-test.true c.fold-k.ensures.value c.close-given.result c.row.result.now c.add-row.new.into
+    walked_more (sizes_of g) c.loop-m.invariant c.loop-m-test.true c.fold-k.ensures.value c.close-given.result c.row.result.now c.add_row.new.into
     c.close-given.ensures.cells (omega (arith, (sizes_of g).run c.loop-m.r (low_r c.loop-m.invariant), (sizes_of g).short, c.close-given.ensures.long)) c.fold-r-in-loop-m.ensures.value
-    c.row.ensures.value c.add-row.ensures.after c.row-in-loop-m.ensures.value c.put-row.ensures.after
+    c.row.ensures.value c.add_row.ensures.after c.row-in-loop-m.ensures.value c.put_row.ensures.after
 
 pub returns : goal.returns
 returns c =

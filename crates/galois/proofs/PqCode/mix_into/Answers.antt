@@ -11,10 +11,10 @@ unfolding mixed
 returns c =
     let into = c.args.into.now in
     let block = c.args.block.now in
-    let f = times c.power-of.result in
+    let f = times c.power_of.result in
     record {
       answered = search rules;
       after =
-          c.add-scaled.ensures.after ∙ onto_same into (map f block) (omega (arith, length-map block f))
-          ∙ ap (λ x. into ⊕ map (times x) block) c.power-of.ensures.value;
+          c.add_scaled.ensures.after ∙ onto_same into (map f block) (omega (arith, length-map block f))
+          ∙ ap (λ x. into ⊕ map (times x) block) c.power_of.ensures.value;
     }

@@ -10,5 +10,5 @@ returns c = record {
   answered = search rules;
   after =
       c.scale.ensures.after
-      ∙ ap (λ x. map (times x) c.args.buffer.now) (c.power-of.ensures.value ∙ sym (inverse_power c.args.j (omega arith)));
+      ∙ ap (λ x. map (times x) c.args.buffer.now) (c.power_of.ensures.value ∙ sym (inverse_power c.args.j (omega arith)));
 }

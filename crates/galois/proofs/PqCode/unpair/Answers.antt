@@ -6,10 +6,10 @@ use Rattle.field.specs.Mixing.{unpaired}
 use Rattle.field.proofs.Logs.{sum_pos}
 use Rattle.galois.proofs.PqCode.unpair.Goals as goal
 
-pub inverse-of-requires : goal.inverse-of-requires
-inverse-of-requires c = record {
+pub inverse_of-requires : goal.inverse_of-requires
+inverse_of-requires c = record {
   nonzero =
-      subst⁻¹ (λ (n : ℕ). 0 < n) (ap₂ bit_xor c.power-of.ensures.value c.power-of-2.ensures.value)
+      subst⁻¹ (λ (n : ℕ). 0 < n) (ap₂ bit_xor c.power_of.ensures.value c.power_of-2.ensures.value)
       (sum_pos c.args.i c.args.j (omega arith) (omega arith) c.if-i-j.false);
 }
 
@@ -20,5 +20,5 @@ returns c = record {
   after =
       c.scale.ensures.after
       ∙ ap (λ x. map (times x) c.args.buffer.now)
-      (c.inverse-of.ensures.value ∙ ap inverse (ap₂ bit_xor c.power-of.ensures.value c.power-of-2.ensures.value));
+      (c.inverse_of.ensures.value ∙ ap inverse (ap₂ bit_xor c.power_of.ensures.value c.power_of-2.ensures.value));
 }

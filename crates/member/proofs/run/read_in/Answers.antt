@@ -14,5 +14,5 @@ returns c =
     let span : b * 512 + 512 - b * 512 ≡ 512 = omega arith in
     record {
       answered = sym (read_ok n xs b lt (length old) sized);
-      after = c.copy-from-slice.ensures.after ∙ ap (λ k. take k (drop (b * 512) xs)) span ∙ sym (handed_ok n xs b lt old sized);
+      after = c.copy_from_slice.ensures.after ∙ ap (λ k. take k (drop (b * 512) xs)) span ∙ sym (handed_ok n xs b lt old sized);
     }

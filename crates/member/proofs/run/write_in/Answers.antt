@@ -16,7 +16,7 @@ returns c =
     record {
       answered = sym (write_ok n xs b lt (length v) sized);
       after =
-          ap (λ k. put_mid (b * 512) k xs c.copy-from-slice.new.self) span
-          ∙ ap (pasted xs b) c.copy-from-slice.ensures.after ∙ sym (wrote_ok n xs b lt v sized);
-      low = λ h i. (c.type-inv.run i).fits;
+          ap (λ k. put_mid (b * 512) k xs c.copy_from_slice.new.self) span
+          ∙ ap (pasted xs b) c.copy_from_slice.ensures.after ∙ sym (wrote_ok n xs b lt v sized);
+      low = λ h i. (c.type_inv.run i).fits;
     }

@@ -12,18 +12,18 @@ use Rattle.recovery.proofs.columns.gather.Goals as goal
 pub loop-t-init : goal.loop-t-init
 loop-t-init g c = (needed_none _ _ _ (sum_none _) c.requires.empty.0, needed_none _ _ _ (sum_none _) c.requires.empty.1)
 
-pub add-present-requires : goal.add-present-requires
-add-present-requires g c =
+pub add_present-requires : goal.add_present-requires
+add_present-requires g c =
     record {
       shape = (c.requires.shape.0, omega (arith, c.requires.shape.1));
       sizes = (c.told-columns _ (omega arith), c.loop-t.auto.plain ∙ length_zeros _ c.requires.empty.0, c.loop-t.auto.mixed ∙ length_zeros _ c.requires.empty.1);
     }
 
 pub loop-t-preserved : goal.loop-t-preserved
-loop-t-preserved g c = (needed_step _ _ _ _ _ c.loop-t.invariant.0 c.in-ok-add-present.ensures.plain, needed_step _ _ _ _ _ c.loop-t.invariant.1 c.in-ok-add-present.ensures.mixed)
+loop-t-preserved g c = (needed_step _ _ _ _ _ c.loop-t.invariant.0 c.in_ok-add_present.ensures.plain, needed_step _ _ _ _ _ c.loop-t.invariant.1 c.in_ok-add_present.ensures.mixed)
 
-pub returns-in-err-add-present : goal.returns-in-err-add-present
-returns-in-err-add-present g c = absurd (never c.add-present.result _ c.in-err-add-present.was c.add-present.ensures.answered)
+pub returns-in_err-add_present : goal.returns-in_err-add_present
+returns-in_err-add_present g c = absurd (never c.add_present.result _ c.in_err-add_present.was c.add_present.ensures.answered)
 
 pub returns : goal.returns
 returns g c =

@@ -10,11 +10,11 @@ returns g c =
     let C = g.C.Code.coding c.args.code.now in
     let n = length c.args.columns.now in
     let cols = stripe_of c.args.columns.now c.args.present.now in
-    let v = c.in-ok-recover-missing.ensures.value in
-    let s = shape c.limit.result n (length c.args.present.now) c.args.want (sym c.is-shaped.ensures.value ∙ c.if-not-is-shaped.false) in
+    let v = c.in_ok-recover_missing.ensures.value in
+    let s = shape c.limit.result n (length c.args.present.now) c.args.want (sym c.is_shaped.ensures.value ∙ c.if-not-is_shaped.false) in
     let e : length c.args.present.now ≡ n - 2 + 2 = omega (arith, s.same, s.pair) in
     let few : missing cols (n - 2 + 2) ≤ 2 =
-    subst (λ m. missing cols m ≤ 2) e (omega (arith, c.count-missing.ensures.value c.args.columns.now)) in
+    subst (λ m. missing cols m ≤ 2) e (omega (arith, c.count_missing.ensures.value c.args.columns.now)) in
     record {
       answered = search rules;
       value = v;

@@ -22,7 +22,7 @@ returns g c =
     let k = c.args.k in
     let cols = stripe_of c.args.columns.now c.args.present.now in
     let w : c.way-way.result ≡ way k (gaps cols k) (is_some (cols k)) c.args.want =
-    way_from k c.args.columns.now c.args.present.now c.args.want c.lost-data.result c.way-way.result (c.lost-data.ensures.value c.args.columns.now) c.way-way.ensures.value in
+    way_from k c.args.columns.now c.args.present.now c.args.want c.lost_data.result c.way-way.result (c.lost_data.ensures.value c.args.columns.now) c.way-way.ensures.value in
     let n : named C.limit c.way-way.result ≡ true = ap (named C.limit) w ∙ way_named C.limit cols k c.requires.shape.0 (gaps cols k) refl (is_some (cols k)) c.args.want in
     let z : answer c.solve.result ≡ 0 = c.solve.ensures.answered ∙ way_taken C.limit c.way-way.result _ n (good_two c.gather.new.plain c.gather.new.mixed (c.gather.auto.plain ∙ length_zeros _ c.clear.ensures.after) c.gather.auto.mixed) in
     record {

@@ -9,12 +9,12 @@ pub loop-j-init : goal.loop-j-init
 loop-j-init g c = (c.requires.p ∙ sym (sum_none _), c.requires.q ∙ sym (sum_none _))
 
 pub loop-j-preserved : goal.loop-j-preserved
-loop-j-preserved g c = (sum_step _ _ _ _ c.loop-j.invariant.0 c.in-ok-change.ensures.p, sum_step _ _ _ _ c.loop-j.invariant.1 c.in-ok-change.ensures.q)
+loop-j-preserved g c = (sum_step _ _ _ _ c.loop-j.invariant.0 c.in_ok-change.ensures.p, sum_step _ _ _ _ c.loop-j.invariant.1 c.in_ok-change.ensures.q)
 
-pub returns-in-err-change : goal.returns-in-err-change
-returns-in-err-change g c =
+pub returns-in_err-change : goal.returns-in_err-change
+returns-in_err-change g c =
     let z : answer c.change.result ≡ 0 =
     c.change.ensures.answered
     ∙ column_taken _ _ _ (omega arith)
     (good_three _ _ _ (c.told-data _ (omega arith)) (c.loop-j.auto.p ∙ length_zeros _ c.requires.p) (c.loop-j.auto.q ∙ length_zeros _ c.requires.q)) in
-    absurd (never c.change.result _ c.in-err-change.was z)
+    absurd (never c.change.result _ c.in_err-change.was z)

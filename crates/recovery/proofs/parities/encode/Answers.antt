@@ -6,6 +6,6 @@ pub returns : goal.returns
 returns g c =
     record {
       answered = search rules;
-      p = c.add-all.ensures.p ∙ sym (column_P _ _ _ _ refl);
-      q = c.add-all.ensures.q ∙ sym (column_Q _ _ _ _ refl);
+      p = c.add_all.ensures.p ∙ sym (column_P _ _ _ _ refl);
+      q = c.add_all.ensures.q ∙ sym (column_Q _ _ _ _ refl);
     }

@@ -17,8 +17,8 @@ loop-answer-init g c =
           (table_of s.moves) (omega (arith, c.requires.first, c.requires.there)),
     )
 
-pub returns-then-not-refused-with : goal.returns-then-not-refused-with
-returns-then-not-refused-with g c =
+pub returns-then-not-refused_with : goal.returns-then-not-refused_with
+returns-then-not-refused_with g c =
     let M = g.M.Member in
     let s = c.loop-answer.self in
     let u = table_of s.moves in
@@ -31,7 +31,7 @@ returns-then-not-refused-with g c =
     let said : refusal c.write-answer.result ≡ write_refusal (M.meaning x) p (length v) =
     c.write-answer.ensures.answered ∙ ap (λ q. write_refusal (M.meaning x) q (length v)) e in
     let other : refused_with 3 (write_refusal (M.meaning x) p (length v)) ≡ false =
-    ap (refused_with 3) (sym said) ∙ sym c.if-not-refused-with.ensures.value in
+    ap (refused_with 3) (sym said) ∙ sym c.if-not-refused_with.ensures.value in
     let q = trying_all M.sound M.meaning M.seen M.wrote M.ticked M.renewed g.met.M.Member.lawful first b v c.requires.sized
     c.requires.there (M.state c.args.self.now.below) (table_of c.args.self.now.moves) x u (g.met.M.Member.holds s.below)
     (table_within s.moves) c.loop-answer.invariant.1 other in
@@ -40,8 +40,8 @@ returns-then-not-refused-with g c =
       exact = ap (λ y. layer y u) (c.write-answer.ensures.exact ∙ ap (λ r. M.wrote x r v) e) ∙ q.1;
     }
 
-pub returns-in-default : goal.returns-in-default
-returns-in-default g c =
+pub returns-in_default : goal.returns-in_default
+returns-in_default g c =
     let M = g.M.Member in
     let s = c.loop-answer.self in
     let u = table_of s.moves in
@@ -54,14 +54,14 @@ returns-in-default g c =
     let said : refusal c.write-answer.result ≡ write_refusal (M.meaning x) p (length v) =
     c.write-answer.ensures.answered ∙ ap (λ q. write_refusal (M.meaning x) q (length v)) e in
     let three : refused_with 3 (write_refusal (M.meaning x) p (length v)) ≡ true =
-    ap (refused_with 3) (sym said) ∙ sym c.if-not-refused-with.ensures.value in
-    let none = none_left u c.in-default.ensures.value in
+    ap (refused_with 3) (sym said) ∙ sym c.if-not-refused_with.ensures.value in
+    let none = none_left u c.in_default.ensures.value in
     let full : left u ≡ 0 = omega (arith, ltb-false (used u) u.spares none) in
     let q = trying_spent M.sound M.meaning M.seen M.wrote M.ticked M.renewed g.met.M.Member.lawful first b v c.requires.sized
     c.requires.there (M.state c.args.self.now.below) (table_of c.args.self.now.moves) x u (g.met.M.Member.holds s.below)
     (table_within s.moves) c.loop-answer.invariant.1 three full in
     let exact : M.state c.write-answer.new.self ≡ M.wrote x p v = c.write-answer.ensures.exact ∙ ap (λ r. M.wrote x r v) e in
-    let same : table_of c.take.new.self ≡ u = c.in-default.ensures.after ∙ cond-false _ _ _ none in
+    let same : table_of c.take.new.self ≡ u = c.in_default.ensures.after ∙ cond-false _ _ _ none in
     record {
       answered =
           c.refuse.ensures.answered
@@ -85,13 +85,13 @@ loop-answer-preserved g c =
     let said : refusal c.write-answer.result ≡ write_refusal (M.meaning x) p (length v) =
     c.write-answer.ensures.answered ∙ ap (λ q. write_refusal (M.meaning x) q (length v)) e in
     let three : refused_with 3 (write_refusal (M.meaning x) p (length v)) ≡ true =
-    ap (refused_with 3) (sym said) ∙ sym c.if-not-refused-with.ensures.value in
+    ap (refused_with 3) (sym said) ∙ sym c.if-not-refused_with.ensures.value in
     let some = some_left u c.in-Some.spare c.in-Some.ensures.value in
     let exact : M.state c.write-answer.new.self ≡ M.wrote x p v = c.write-answer.ensures.exact ∙ ap (λ r. M.wrote x r v) e in
     let next : table_of c.take.new.self ≡ moved_on u b = c.in-Some.ensures.after ∙ cond-true _ _ _ some.0 in
     let on = trying_more M.sound M.meaning M.seen M.wrote M.ticked M.renewed g.met.M.Member.lawful first b v c.requires.sized
     c.requires.there from t x u (g.met.M.Member.holds s.below) (table_within s.moves) c.loop-answer.invariant.1 three
-    (ltb-true (used u) u.spares some.0) (λ i. (c.type-inv.bytes i).fits) in (
+    (ltb-true (used u) u.spares some.0) (λ i. (c.type_inv.bytes i).fits) in (
       ap (λ k. first + k) some.1 ∙ sym (moved_here u first b) ∙ ap (λ w. place w first b) (sym next),
       subst (λ w. Trying M.meaning M.wrote first b v from t (M.state c.write-answer.new.self) w) (sym next)
           (subst (λ y. Trying M.meaning M.wrote first b v from t y (moved_on u b)) (sym exact) on),

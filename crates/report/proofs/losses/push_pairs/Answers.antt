@@ -8,7 +8,7 @@ loop-i-init g c = same_text (string_bytes c.args.out.now) ∙ ap (λ x. string_b
 
 pub loop-i-preserved : goal.loop-i-preserved
 loop-i-preserved g c =
-    grown (string_bytes c.args.out.now) _ _ _ _ c.loop-i.invariant c.in-ok-push-pairs-of.ensures.made
+    grown (string_bytes c.args.out.now) _ _ _ _ c.loop-i.invariant c.in_ok-push_pairs_of.ensures.made
     ∙ ap (λ x. string_bytes c.args.out.now ++ x) (sym (below_more (length c.args.columns.now) c.loop-i.i))
 
 pub returns : goal.returns

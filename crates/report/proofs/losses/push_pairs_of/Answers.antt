@@ -14,7 +14,7 @@ pub loop-j-preserved : goal.loop-j-preserved
 loop-j-preserved g c =
     let i = c.args.i in
     let j = c.loop-j.j in
-    let line = c.in-ok-push-pair.ensures.made ∙ ap (λ b. string_bytes c.loop-j.out ++ pair_line i j b) c.survives.ensures.value in
+    let line = c.in_ok-push_pair.ensures.made ∙ ap (λ b. string_bytes c.loop-j.out ++ pair_line i j b) c.survives.ensures.value in
     grown (string_bytes c.args.out.now) _ _ _ _ c.loop-j.invariant line
     ∙ ap (λ x. string_bytes c.args.out.now ++ x) (sym (with_more i (i + 1) j c.loop-j.auto.j))
 

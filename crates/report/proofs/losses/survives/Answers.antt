@@ -10,12 +10,12 @@ few : (blocks : List (List ℕ)) (marks : List Bool) (i j : ℕ) → marks ≡ m
     → (length (take (length blocks - 0) marks) ≡ length blocks) × (missing (stripe_of blocks (take (length blocks - 0) marks)) (length blocks) ≤ 2)
 few blocks marks i j e h = rw e (marks_length i j (length blocks) h, few_missing blocks i j (length blocks) h)
 
-pub comes-back-requires : goal.comes-back-requires
-comes-back-requires g c =
-    let m = few c.args.columns.now c.marks-without-marks.result c.args.i c.args.j c.marks-without-marks.ensures.value c.requires.few in
+pub comes_back-requires : goal.comes_back-requires
+comes_back-requires g c =
+    let m = few c.args.columns.now c.marks_without-marks.result c.args.i c.args.j c.marks_without-marks.ensures.value c.requires.few in
     record { whole = c.requires.whole; marked = m.0; few = m.1; within = omega arith }
 
-pub comes-back-requires-then-comes-back : goal.comes-back-requires-then-comes-back
-comes-back-requires-then-comes-back g c =
-    let m = few c.args.columns.now c.marks-without-marks.result c.args.i c.args.j c.marks-without-marks.ensures.value c.requires.few in
+pub comes_back-requires-then-comes_back : goal.comes_back-requires-then-comes_back
+comes_back-requires-then-comes_back g c =
+    let m = few c.args.columns.now c.marks_without-marks.result c.args.i c.args.j c.marks_without-marks.ensures.value c.requires.few in
     record { whole = c.requires.whole; marked = m.0; few = m.1; within = omega arith }

@@ -8,7 +8,7 @@ loop-b-init c = same_text (string_bytes c.args.out.now) ∙ ap (λ x. string_byt
 
 pub loop-b-preserved : goal.loop-b-preserved
 loop-b-preserved c =
-    grown (string_bytes c.args.out.now) _ _ _ _ c.loop-b.invariant c.in-ok-push-byte.ensures.made
+    grown (string_bytes c.args.out.now) _ _ _ _ c.loop-b.invariant c.in_ok-push_byte.ensures.made
     ∙ ap (λ x. string_bytes c.args.out.now ++ x) (sym (hex_more c.args.block.now c.loop-b.b-index (omega arith)))
 
 pub returns : goal.returns

@@ -21,5 +21,5 @@ returns g c =
     record {
       same = shape_same m v w k.code k.layout k.size;
       makes = made;
-      goes = goes (shape m v) (state m v) (state m w) (write c.args.block c.args.bytes.now) _ (given c.args.block c.args.bytes.now (record { long = refl; bytes = λ i. (c.type-inv.bytes i).fits })) (λ _. made);
+      goes = goes (shape m v) (state m v) (state m w) (write c.args.block c.args.bytes.now) _ (given c.args.block c.args.bytes.now (record { long = refl; bytes = λ i. (c.type_inv.bytes i).fits })) (λ _. made);
     }

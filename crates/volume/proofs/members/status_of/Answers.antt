@@ -4,20 +4,20 @@ use Rattle.volume.specs.Slots.{members_of, frontier_of}
 use Rattle.volume.proofs.Looking.{seen_by, seen_told, told_gone, told_present}
 use Rattle.volume.proofs.members.status_of.Goals as goal
 
-pub returns-then-is-ok : goal.returns-then-is-ok
-returns-then-is-ok g c =
+pub returns-then-is_ok : goal.returns-then-is_ok
+returns-then-is_ok g c =
     let b = g.B.Bank.state c.args.bank.now in
-    let e = seen_told (g.B.Bank.meaning b) (g.met.B.Bank.lawful.means b (g.met.B.Bank.holds c.args.bank.now)) c.args.slot c.args.stripe c.look.result true c.look.ensures.answered c.if-is-ok.ensures.value in
+    let e = seen_told (g.B.Bank.meaning b) (g.met.B.Bank.lawful.means b (g.met.B.Bank.holds c.args.bank.now)) c.args.slot c.args.stripe c.look.result true c.look.ensures.answered c.if-is_ok.ensures.value in
     record { value = c.present_status.ensures.value ∙ told_present (g.B.Bank.meaning b) (frontier_of c.args.table.now.rows) c.args.stripe c.args.slot true e c.has.result c.has.ensures.value (λ h. absurd (true≢false h)) }
 
-pub returns-then-is-gone : goal.returns-then-is-gone
-returns-then-is-gone g c =
+pub returns-then-is_gone : goal.returns-then-is_gone
+returns-then-is_gone g c =
     let b = g.B.Bank.state c.args.bank.now in
-    let e = seen_told (g.B.Bank.meaning b) (g.met.B.Bank.lawful.means b (g.met.B.Bank.holds c.args.bank.now)) c.args.slot c.args.stripe c.look.result false c.look.ensures.answered c.if-is-ok.ensures.value in
-    record { value = told_gone (g.B.Bank.meaning b) (frontier_of c.args.table.now.rows) c.args.stripe c.args.slot false e refl (sym c.if-is-gone.ensures.value) }
+    let e = seen_told (g.B.Bank.meaning b) (g.met.B.Bank.lawful.means b (g.met.B.Bank.holds c.args.bank.now)) c.args.slot c.args.stripe c.look.result false c.look.ensures.answered c.if-is_ok.ensures.value in
+    record { value = told_gone (g.B.Bank.meaning b) (frontier_of c.args.table.now.rows) c.args.stripe c.args.slot false e refl (sym c.if-is_gone.ensures.value) }
 
 pub returns : goal.returns
 returns g c =
     let b = g.B.Bank.state c.args.bank.now in
-    let e = seen_told (g.B.Bank.meaning b) (g.met.B.Bank.lawful.means b (g.met.B.Bank.holds c.args.bank.now)) c.args.slot c.args.stripe c.look.result false c.look.ensures.answered c.if-is-ok.ensures.value in
-    record { value = c.present-status-2.ensures.value ∙ told_present (g.B.Bank.meaning b) (frontier_of c.args.table.now.rows) c.args.stripe c.args.slot false e c.has-2.result c.has-2.ensures.value (λ _. sym c.if-is-gone.ensures.value) }
+    let e = seen_told (g.B.Bank.meaning b) (g.met.B.Bank.lawful.means b (g.met.B.Bank.holds c.args.bank.now)) c.args.slot c.args.stripe c.look.result false c.look.ensures.answered c.if-is_ok.ensures.value in
+    record { value = c.present_status-2.ensures.value ∙ told_present (g.B.Bank.meaning b) (frontier_of c.args.table.now.rows) c.args.stripe c.args.slot false e c.has-2.result c.has-2.ensures.value (λ _. sym c.if-is_gone.ensures.value) }

@@ -6,4 +6,4 @@ pub loop-slot-init : goal.loop-slot-init
 loop-slot-init g c = sym (smallest_none _)
 
 pub loop-slot-preserved : goal.loop-slot-preserved
-loop-slot-preserved g c = c.min-least.ensures ∙ ap₂ min c.loop-slot.invariant c.count-at.ensures.value ∙ sym (smallest_more _ c.loop-slot.slot)
+loop-slot-preserved g c = c.min-least.ensures ∙ ap₂ min c.loop-slot.invariant c.count_at.ensures.value ∙ sym (smallest_more _ c.loop-slot.slot)

@@ -10,6 +10,6 @@ loop-s-init g c = (steps_none _ _, turn_none _ _)
 
 pub loop-s-preserved : goal.loop-s-preserved
 loop-s-preserved g c = (
-  steps_more _ _ _ _ _ c.loop-s.invariant.0 c.zero-stripe.ensures.zeroed,
-  c.zero-stripe.ensures.exact ∙ turn_more (λ t s. in_turn (λ u i. g.B.Bank.wrote u i s zeros) c.args.n t) _ _ _ c.loop-s.invariant.1,
+  steps_more _ _ _ _ _ c.loop-s.invariant.0 c.zero_stripe.ensures.zeroed,
+  c.zero_stripe.ensures.exact ∙ turn_more (λ t s. in_turn (λ u i. g.B.Bank.wrote u i s zeros) c.args.n t) _ _ _ c.loop-s.invariant.1,
 )

@@ -4,8 +4,8 @@ use Rattle.prime.proofs.Mixings.{evenodd_unpaired}
 use Rattle.diagonal.specs.Facts.{sizes_of}
 use Rattle.diagonal.proofs.evenodd.EvenOddCode.unpair.Goals as goal
 
-pub solve-pair-requires : goal.solve-pair-requires
-solve-pair-requires c =
+pub solve_pair-requires : goal.solve_pair-requires
+solve_pair-requires c =
     let g = c.args.self.now.grid in
     record {
       sized = c.unadjust.auto.buffer ∙ c.if-buffer-ne-BLOCK.false;
@@ -20,5 +20,5 @@ returns c =
     let g = c.args.self.now.grid in
     record {
       answered = search rules;
-      after = evenodd_unpaired g.prime g.width 512 (sizes_of g) c.args.i c.args.j c.args.buffer.now c.unadjust.new.buffer c.solve-pair.new.buffer c.unadjust.ensures.after c.solve-pair.ensures.after;
+      after = evenodd_unpaired g.prime g.width 512 (sizes_of g) c.args.i c.args.j c.args.buffer.now c.unadjust.new.buffer c.solve_pair.new.buffer c.unadjust.ensures.after c.solve_pair.ensures.after;
     }

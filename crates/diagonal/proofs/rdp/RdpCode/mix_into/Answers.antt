@@ -10,6 +10,6 @@ returns c =
     let g = c.args.self.now.grid in
     record {
       answered = search rules;
-      after = rdp_mixed g.prime g.width 512 (sizes_of g) c.args.j c.args.block.now c.args.into.now c.add-shifted.new.into c.add-shifted-2.new.into
-          (c.add-shifted.ensures.after ∙ ap (λ (s : ℕ). c.args.into.now ⊕ shifted g.prime g.width s c.args.block.now) c.fold.ensures.value) c.add-shifted-2.ensures.after;
+      after = rdp_mixed g.prime g.width 512 (sizes_of g) c.args.j c.args.block.now c.args.into.now c.add_shifted.new.into c.add_shifted-2.new.into
+          (c.add_shifted.ensures.after ∙ ap (λ (s : ℕ). c.args.into.now ⊕ shifted g.prime g.width s c.args.block.now) c.fold.ensures.value) c.add_shifted-2.ensures.after;
     }

@@ -3,8 +3,8 @@ use Rattle.prime.proofs.Laws.{differ_one}
 use Rattle.diagonal.specs.Facts.{sizes_of}
 use Rattle.diagonal.proofs.rdp.RdpCode.unmix.Goals as goal
 
-pub solve-pair-requires : goal.solve-pair-requires
-solve-pair-requires c =
+pub solve_pair-requires : goal.solve_pair-requires
+solve_pair-requires c =
     let g = c.args.self.now.grid in
     record {
       sized = search rules;

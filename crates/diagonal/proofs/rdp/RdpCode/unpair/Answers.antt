@@ -2,8 +2,8 @@ use Rattle.std.proofs.Common.{arith, rules}
 use Rattle.prime.proofs.Laws.{differ_pair}
 use Rattle.diagonal.proofs.rdp.RdpCode.unpair.Goals as goal
 
-pub solve-pair-requires : goal.solve-pair-requires
-solve-pair-requires c =
+pub solve_pair-requires : goal.solve_pair-requires
+solve_pair-requires c =
     let g = c.args.self.now.grid in
     record {
       sized = search rules;

@@ -10,6 +10,6 @@ returns g c =
     let M = members_of (g.B.Bank.meaning (g.B.Bank.state v.bank)) in
     let F = frontier_of v.table.rows in
     record {
-      value = c.saturating-sub.ensures ∙ ap (λ (x : ℕ). 2 - x) c.weak-slots.ensures.value
-          ∙ ap (λ (z : Size). 2 - count (λ i. (M i).gone || ltb (F i) z.stripes) z.slots) c.size-with-size.ensures.value;
+      value = c.saturating_sub.ensures ∙ ap (λ (x : ℕ). 2 - x) c.weak_slots.ensures.value
+          ∙ ap (λ (z : Size). 2 - count (λ i. (M i).gone || ltb (F i) z.stripes) z.slots) c.size_with-size.ensures.value;
     }

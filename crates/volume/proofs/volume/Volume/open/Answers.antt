@@ -17,25 +17,25 @@ use Rattle.volume.specs.Volumes.{ordered}
 use Rattle.volume.specs.declared.volume.rebuilds.Order.{Order}
 use Rattle.volume.proofs.volume.Volume.open.Goals as goal
 
-pub returns-in-err-change : goal.returns-in-err-change
-returns-in-err-change g c =
+pub returns-in_err-change : goal.returns-in_err-change
+returns-in_err-change g c =
     let v = c.args.self.now in
     let C = g.C.Code.coding v.code in
     let slot = g.L.Layout.slot v.layout in
     let column = g.L.Layout.column v.layout in
     let M = members_of (g.B.Bank.meaning (g.B.Bank.state v.bank)) in
     let R = records_of v.table.rows in
-    let z = c.size-with-size.result in
-    let e = c.size-with-size.ensures.value in
+    let z = c.size_with-size.result in
+    let e = c.size_with-size.ensures.value in
     let V = shape_at C slot column (size_of C.limit v.size) in
-    let valid = valid_at C (g.met.C.Code.lawful v.code) slot column (g.met.L.Layout.lawful v.layout) _ (subst (Fitting C.limit) e c.size-with-size.ensures.fitting) in
+    let valid = valid_at C (g.met.C.Code.lawful v.code) slot column (g.met.L.Layout.lawful v.layout) _ (subst (Fitting C.limit) e c.size_with-size.ensures.fitting) in
     let i = c.args.slot in
     let Q = records_of c.change.new.self.rows in
-    let p = err_from_is_err_and c.from-residual.result c.from-residual.ensures.1 in
+    let p = err_from_is_err_and c.from_residual.result c.from_residual.ensures.1 in
     let d = subst (λ (y : Size). EventDone (shape_at C slot column y) R i Opened (plain 2) Q (outcome c.change.result)) e
     (event_done (shape_at C slot column z) R i Opened (plain 2) Q (outcome c.change.result) (omega arith) c.change.ensures.records c.change.ensures.answered) in
     record {
-      answered = ap ordered p.1 ∙ ap (λ (x : Refusal). ordered (Err x)) p.2 ∙ answering_err i _ _ (sym (ap outcome c.in-err-change.was) ∙ d.answered);
+      answered = ap ordered p.1 ∙ ap (λ (x : Refusal). ordered (Err x)) p.2 ∙ answering_err i _ _ (sym (ap outcome c.in_err-change.was) ∙ d.answered);
       bank = refl;
       records = d.records;
       kept = record { code = refl; layout = refl; size = refl };
@@ -50,16 +50,16 @@ returns g c =
     let column = g.L.Layout.column v.layout in
     let M = members_of (g.B.Bank.meaning (g.B.Bank.state v.bank)) in
     let R = records_of v.table.rows in
-    let z = c.size-with-size.result in
-    let e = c.size-with-size.ensures.value in
+    let z = c.size_with-size.result in
+    let e = c.size_with-size.ensures.value in
     let V = shape_at C slot column (size_of C.limit v.size) in
-    let valid = valid_at C (g.met.C.Code.lawful v.code) slot column (g.met.L.Layout.lawful v.layout) _ (subst (Fitting C.limit) e c.size-with-size.ensures.fitting) in
+    let valid = valid_at C (g.met.C.Code.lawful v.code) slot column (g.met.L.Layout.lawful v.layout) _ (subst (Fitting C.limit) e c.size_with-size.ensures.fitting) in
     let i = c.args.slot in
     let Q = records_of c.change.new.self.rows in
     let d = subst (λ (y : Size). EventDone (shape_at C slot column y) R i Opened (plain 2) Q (outcome c.change.result)) e
     (event_done (shape_at C slot column z) R i Opened (plain 2) Q (outcome c.change.result) (omega arith) c.change.ensures.records c.change.ensures.answered) in
     record {
-      answered = answering_ok i _ _ (sym (ap outcome c.in-ok-change.was) ∙ d.answered);
+      answered = answering_ok i _ _ (sym (ap outcome c.in_ok-change.was) ∙ d.answered);
       bank = refl;
       records = d.records;
       kept = record { code = refl; layout = refl; size = refl };

@@ -15,15 +15,15 @@ returns-then-stripe-size g c =
     let V = shape_at C (g.L.Layout.slot v.layout) (g.L.Layout.column v.layout) in
     let M = members_of (g.B.Bank.meaning (g.B.Bank.state v.bank)) in
     let F = frontier_of v.table.rows in
-    let z = c.size-with-size.result in
-    let e = c.size-with-size.ensures.value in
-    let valid = valid_at C (g.met.C.Code.lawful v.code) (g.L.Layout.slot v.layout) (g.L.Layout.column v.layout) (g.met.L.Layout.lawful v.layout) _ (subst (Fitting C.limit) e c.size-with-size.ensures.fitting) in
+    let z = c.size_with-size.result in
+    let e = c.size_with-size.ensures.value in
+    let valid = valid_at C (g.met.C.Code.lawful v.code) (g.L.Layout.slot v.layout) (g.L.Layout.column v.layout) (g.met.L.Layout.lawful v.layout) _ (subst (Fitting C.limit) e c.size_with-size.ensures.fitting) in
     let s = c.args.stripe in
     let d = subst (λ (x : Size). ScrubDone (V x) M F s M (Err (plain 2))) e (scrub_beyond (V z) M F s c.if-stripe-size.true) in
     record { answered = d.answered; changes = d.changes; kept = record { code = refl; layout = refl; size = refl; table = refl }; loss = losses _ M F; right = λ room. scrubs _ valid M F room s M d.changes }
 
-pub scrub-stripe-requires : goal.scrub-stripe-requires
-scrub-stripe-requires g c = record { fitting = c.size-with-size.ensures.fitting; within = c.if-stripe-size.false }
+pub scrub_stripe-requires : goal.scrub_stripe-requires
+scrub_stripe-requires g c = record { fitting = c.size_with-size.ensures.fitting; within = c.if-stripe-size.false }
 
 pub returns : goal.returns
 returns g c =
@@ -31,12 +31,12 @@ returns g c =
     let C = g.C.Code.coding v.code in
     let V = shape_at C (g.L.Layout.slot v.layout) (g.L.Layout.column v.layout) in
     let M = members_of (g.B.Bank.meaning (g.B.Bank.state v.bank)) in
-    let N = members_of (g.B.Bank.meaning (g.B.Bank.state c.scrub-stripe.new.bank)) in
+    let N = members_of (g.B.Bank.meaning (g.B.Bank.state c.scrub_stripe.new.bank)) in
     let F = frontier_of v.table.rows in
-    let z = c.size-with-size.result in
-    let e = c.size-with-size.ensures.value in
-    let valid = valid_at C (g.met.C.Code.lawful v.code) (g.L.Layout.slot v.layout) (g.L.Layout.column v.layout) (g.met.L.Layout.lawful v.layout) _ (subst (Fitting C.limit) e c.size-with-size.ensures.fitting) in
+    let z = c.size_with-size.result in
+    let e = c.size_with-size.ensures.value in
+    let valid = valid_at C (g.met.C.Code.lawful v.code) (g.L.Layout.slot v.layout) (g.L.Layout.column v.layout) (g.met.L.Layout.lawful v.layout) _ (subst (Fitting C.limit) e c.size_with-size.ensures.fitting) in
     let s = c.args.stripe in
-    let d = subst (λ (x : Size). ScrubDone (V x) M F s N (outcome c.scrub-stripe.result)) e
-    (scrub_within (V z) M F s c.if-stripe-size.false N c.scrub-stripe.result c.scrub-stripe.ensures.answered c.scrub-stripe.ensures.taken c.scrub-stripe.ensures.refused) in
+    let d = subst (λ (x : Size). ScrubDone (V x) M F s N (outcome c.scrub_stripe.result)) e
+    (scrub_within (V z) M F s c.if-stripe-size.false N c.scrub_stripe.result c.scrub_stripe.ensures.answered c.scrub_stripe.ensures.taken c.scrub_stripe.ensures.refused) in
     record { answered = d.answered; changes = d.changes; kept = record { code = refl; layout = refl; size = refl; table = refl }; loss = losses _ M F; right = λ room. scrubs _ valid M F room s N d.changes }

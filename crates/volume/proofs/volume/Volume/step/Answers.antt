@@ -22,33 +22,33 @@ use Rattle.volume.proofs.Answering.{valid_at}
 use Rattle.volume.proofs.Rebuilding.{StepDone, step_failed, step_made, open_some, column_answer}
 use Rattle.volume.proofs.volume.Volume.step.Goals as goal
 
-pub returns-in-err-rebuild-column : goal.returns-in-err-rebuild-column
-returns-in-err-rebuild-column g c =
+pub returns-in_err-rebuild_column : goal.returns-in_err-rebuild_column
+returns-in_err-rebuild_column g c =
     let v = c.args.self.now in
     let C = g.C.Code.coding v.code in
     let slot = g.L.Layout.slot v.layout in
     let column = g.L.Layout.column v.layout in
     let M = members_of (g.B.Bank.meaning (g.B.Bank.state v.bank)) in
     let R = records_of v.table.rows in
-    let z = c.size-with-size.result in
-    let e = c.size-with-size.ensures.value in
+    let z = c.size_with-size.result in
+    let e = c.size_with-size.ensures.value in
     let V = shape_at C slot column (size_of C.limit v.size) in
-    let valid = valid_at C (g.met.C.Code.lawful v.code) slot column (g.met.L.Layout.lawful v.layout) _ (subst (Fitting C.limit) e c.size-with-size.ensures.fitting) in
+    let valid = valid_at C (g.met.C.Code.lawful v.code) slot column (g.met.L.Layout.lawful v.layout) _ (subst (Fitting C.limit) e c.size_with-size.ensures.fitting) in
     let i = c.args.order.now.slot in
-    let N = members_of (g.B.Bank.meaning (g.B.Bank.state c.rebuild-column.new.bank)) in
+    let N = members_of (g.B.Bank.meaning (g.B.Bank.state c.rebuild_column.new.bank)) in
     let W = shape_at C slot column z in
     let F = frontiers R in
     let here = open_some (ltb i z.slots && is_open (R i).state) (R i).frontier c.in-Some.stripe c.in-Some.ensures.value in
     let at = here.1 in
     let left : (R i).frontier < z.stripes = omega (arith, c.if-stripe-size.false) in
-    let moved = subst (λ (x : ℕ). lossy W M F x ≡ false → Moved (λ m n. Written m x (recovered_at W M F x (W.back x i)) n) i M N) (sym at) c.rebuild-column.ensures.taken in
-    let same = subst (λ (x : ℕ). lossy W M F x ≡ true → N ≡ M) (sym at) c.rebuild-column.ensures.refused in
-    let p = err_from_is_err_and c.from-residual.result c.from-residual.ensures.1 in
-    let t = told c.in-err-rebuild-column.field-0.0 in
+    let moved = subst (λ (x : ℕ). lossy W M F x ≡ false → Moved (λ m n. Written m x (recovered_at W M F x (W.back x i)) n) i M N) (sym at) c.rebuild_column.ensures.taken in
+    let same = subst (λ (x : ℕ). lossy W M F x ≡ true → N ≡ M) (sym at) c.rebuild_column.ensures.refused in
+    let p = err_from_is_err_and c.from_residual.result c.from_residual.ensures.1 in
+    let t = told c.in_err-rebuild_column.field-0.0 in
     let done : Roomy V M → StepDone V M R i N R (Err t) = λ room.
     subst (λ (y : Size). StepDone (shape_at C slot column y) M R i N R (Err t)) e
     (step_failed W M R i here.0 left N moved same t
-    (sym (ap outcome c.in-err-rebuild-column.was) ∙ subst (λ (x : ℕ). outcome c.rebuild-column.result ≡ cond (lossy W M F x) (Err (with_loss 4 (loss_at W M F x))) (column_answer (write_refusal (M i) x block_size) x)) (sym at) (c.rebuild-column.ensures.answered (subst (λ (y : Size). Roomy (shape_at C slot column y) M) (sym e) room)))) in
+    (sym (ap outcome c.in_err-rebuild_column.was) ∙ subst (λ (x : ℕ). outcome c.rebuild_column.result ≡ cond (lossy W M F x) (Err (with_loss 4 (loss_at W M F x))) (column_answer (write_refusal (M i) x block_size) x)) (sym at) (c.rebuild_column.ensures.answered (subst (λ (y : Size). Roomy (shape_at C slot column y) M) (sym e) room)))) in
     record {
       answered = λ room. ap outcome p.1 ∙ ap (λ (x : Refusal). outcome (Err x)) p.2 ∙ (done room).answered;
       changes = λ room. (done room).changes;
@@ -65,24 +65,24 @@ returns g c =
     let column = g.L.Layout.column v.layout in
     let M = members_of (g.B.Bank.meaning (g.B.Bank.state v.bank)) in
     let R = records_of v.table.rows in
-    let z = c.size-with-size.result in
-    let e = c.size-with-size.ensures.value in
+    let z = c.size_with-size.result in
+    let e = c.size_with-size.ensures.value in
     let V = shape_at C slot column (size_of C.limit v.size) in
-    let valid = valid_at C (g.met.C.Code.lawful v.code) slot column (g.met.L.Layout.lawful v.layout) _ (subst (Fitting C.limit) e c.size-with-size.ensures.fitting) in
+    let valid = valid_at C (g.met.C.Code.lawful v.code) slot column (g.met.L.Layout.lawful v.layout) _ (subst (Fitting C.limit) e c.size_with-size.ensures.fitting) in
     let i = c.args.order.now.slot in
-    let N = members_of (g.B.Bank.meaning (g.B.Bank.state c.rebuild-column.new.bank)) in
+    let N = members_of (g.B.Bank.meaning (g.B.Bank.state c.rebuild_column.new.bank)) in
     let W = shape_at C slot column z in
     let F = frontiers R in
     let here = open_some (ltb i z.slots && is_open (R i).state) (R i).frontier c.in-Some.stripe c.in-Some.ensures.value in
     let at = here.1 in
     let left : (R i).frontier < z.stripes = omega (arith, c.if-stripe-size.false) in
-    let moved = subst (λ (x : ℕ). lossy W M F x ≡ false → Moved (λ m n. Written m x (recovered_at W M F x (W.back x i)) n) i M N) (sym at) c.rebuild-column.ensures.taken in
-    let same = subst (λ (x : ℕ). lossy W M F x ≡ true → N ≡ M) (sym at) c.rebuild-column.ensures.refused in
+    let moved = subst (λ (x : ℕ). lossy W M F x ≡ false → Moved (λ m n. Written m x (recovered_at W M F x (W.back x i)) n) i M N) (sym at) c.rebuild_column.ensures.taken in
+    let same = subst (λ (x : ℕ). lossy W M F x ≡ true → N ≡ M) (sym at) c.rebuild_column.ensures.refused in
     let Q = records_of c.change.new.self.rows in
     let done : Roomy V M → StepDone V M R i N Q (outcome c.change.result) = λ room.
     subst (λ (y : Size). StepDone (shape_at C slot column y) M R i N Q (outcome c.change.result)) e
     (step_made W M R i here.0 left N moved same
-    (sym (ap outcome c.in-ok-rebuild-column.was) ∙ subst (λ (x : ℕ). outcome c.rebuild-column.result ≡ cond (lossy W M F x) (Err (with_loss 4 (loss_at W M F x))) (column_answer (write_refusal (M i) x block_size) x)) (sym at) (c.rebuild-column.ensures.answered (subst (λ (y : Size). Roomy (shape_at C slot column y) M) (sym e) room)))
+    (sym (ap outcome c.in_ok-rebuild_column.was) ∙ subst (λ (x : ℕ). outcome c.rebuild_column.result ≡ cond (lossy W M F x) (Err (with_loss 4 (loss_at W M F x))) (column_answer (write_refusal (M i) x block_size) x)) (sym at) (c.rebuild_column.ensures.answered (subst (λ (y : Size). Roomy (shape_at C slot column y) M) (sym e) room)))
     Q (outcome c.change.result) c.change.ensures.records c.change.ensures.answered) in
     record {
       answered = λ room. (done room).answered;

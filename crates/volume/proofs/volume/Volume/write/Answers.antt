@@ -12,8 +12,8 @@ use Rattle.volume.specs.Slots.{members_of, frontier_of}
 use Rattle.volume.proofs.Answering.{valid_at, WriteDone, write_short, write_beyond, write_within, factor}
 use Rattle.volume.proofs.volume.Volume.write.Goals as goal
 
-pub block-count-requires : goal.block-count-requires
-block-count-requires g c = record { few = (c.size-with-size.ensures.fitting.most, c.size-with-size.ensures.fitting.few) }
+pub block_count-requires : goal.block_count-requires
+block_count-requires g c = record { few = (c.size_with-size.ensures.fitting.most, c.size_with-size.ensures.fitting.few) }
 
 pub returns-then-bytes-ne-BLOCK : goal.returns-then-bytes-ne-BLOCK
 returns-then-bytes-ne-BLOCK g c =
@@ -22,49 +22,49 @@ returns-then-bytes-ne-BLOCK g c =
     let V = shape_at C (g.L.Layout.slot v.layout) (g.L.Layout.column v.layout) in
     let M = members_of (g.B.Bank.meaning (g.B.Bank.state v.bank)) in
     let F = frontier_of v.table.rows in
-    let z = c.size-with-size.result in
-    let e = c.size-with-size.ensures.value in
-    let valid = valid_at C (g.met.C.Code.lawful v.code) (g.L.Layout.slot v.layout) (g.L.Layout.column v.layout) (g.met.L.Layout.lawful v.layout) _ (subst (Fitting C.limit) e c.size-with-size.ensures.fitting) in
+    let z = c.size_with-size.result in
+    let e = c.size_with-size.ensures.value in
+    let valid = valid_at C (g.met.C.Code.lawful v.code) (g.L.Layout.slot v.layout) (g.L.Layout.column v.layout) (g.met.L.Layout.lawful v.layout) _ (subst (Fitting C.limit) e c.size_with-size.ensures.fitting) in
     let old = c.args.bytes.now in
     let a = c.args.block in
     let d = subst (λ (x : Size). WriteDone (V x) M F a old M (Err (plain 3))) e (write_short (V z) M F a old c.if-bytes-ne-BLOCK.true) in
-    record { answered = d.answered; changes = d.changes; kept = record { code = refl; layout = refl; size = refl; table = refl }; loss = losses _ M F; right = λ room. writes _ valid M F room a old M (record { long = refl; bytes = λ i. (c.type-inv.bytes i).fits }) d.changes }
+    record { answered = d.answered; changes = d.changes; kept = record { code = refl; layout = refl; size = refl; table = refl }; loss = losses _ M F; right = λ room. writes _ valid M F room a old M (record { long = refl; bytes = λ i. (c.type_inv.bytes i).fits }) d.changes }
 
-pub returns-then-block-block-count : goal.returns-then-block-block-count
-returns-then-block-block-count g c =
+pub returns-then-block-block_count : goal.returns-then-block-block_count
+returns-then-block-block_count g c =
     let v = c.args.self.now in
     let C = g.C.Code.coding v.code in
     let V = shape_at C (g.L.Layout.slot v.layout) (g.L.Layout.column v.layout) in
     let M = members_of (g.B.Bank.meaning (g.B.Bank.state v.bank)) in
     let F = frontier_of v.table.rows in
-    let z = c.size-with-size.result in
-    let e = c.size-with-size.ensures.value in
-    let valid = valid_at C (g.met.C.Code.lawful v.code) (g.L.Layout.slot v.layout) (g.L.Layout.column v.layout) (g.met.L.Layout.lawful v.layout) _ (subst (Fitting C.limit) e c.size-with-size.ensures.fitting) in
+    let z = c.size_with-size.result in
+    let e = c.size_with-size.ensures.value in
+    let valid = valid_at C (g.met.C.Code.lawful v.code) (g.L.Layout.slot v.layout) (g.L.Layout.column v.layout) (g.met.L.Layout.lawful v.layout) _ (subst (Fitting C.limit) e c.size_with-size.ensures.fitting) in
     let old = c.args.bytes.now in
     let a = c.args.block in
-    let l : z.stripes * (z.slots - 2) ≤ a = subst (λ (x : ℕ). x ≤ a) c.block-count.ensures.value c.if-block-block-count.true in
+    let l : z.stripes * (z.slots - 2) ≤ a = subst (λ (x : ℕ). x ≤ a) c.block_count.ensures.value c.if-block-block_count.true in
     let d = subst (λ (x : Size). WriteDone (V x) M F a old M (Err (plain 2))) e (write_beyond (V z) M F a old c.if-bytes-ne-BLOCK.false l) in
-    record { answered = d.answered; changes = d.changes; kept = record { code = refl; layout = refl; size = refl; table = refl }; loss = losses _ M F; right = λ room. writes _ valid M F room a old M (record { long = refl; bytes = λ i. (c.type-inv.bytes i).fits }) d.changes }
+    record { answered = d.answered; changes = d.changes; kept = record { code = refl; layout = refl; size = refl; table = refl }; loss = losses _ M F; right = λ room. writes _ valid M F room a old M (record { long = refl; bytes = λ i. (c.type_inv.bytes i).fits }) d.changes }
 
-pub overflow-sub-k : goal.overflow-sub-k
-overflow-sub-k g c = let k0 = factor c.args.block c.size-with-size.result.stripes (c.size-with-size.result.slots - 2) (subst (λ (x : ℕ). c.args.block < x) c.block-count.ensures.value c.if-block-block-count.false) in omega arith
+pub overflow_sub-k : goal.overflow_sub-k
+overflow_sub-k g c = let k0 = factor c.args.block c.size_with-size.result.stripes (c.size_with-size.result.slots - 2) (subst (λ (x : ℕ). c.args.block < x) c.block_count.ensures.value c.if-block-block_count.false) in omega arith
 
-pub nonzero-div-block : goal.nonzero-div-block
-nonzero-div-block g c = factor c.args.block c.size-with-size.result.stripes (c.size-with-size.result.slots - 2) (subst (λ (x : ℕ). c.args.block < x) c.block-count.ensures.value c.if-block-block-count.false)
+pub nonzero_div-block : goal.nonzero_div-block
+nonzero_div-block g c = factor c.args.block c.size_with-size.result.stripes (c.size_with-size.result.slots - 2) (subst (λ (x : ℕ). c.args.block < x) c.block_count.ensures.value c.if-block-block_count.false)
 
-pub nonzero-rem-block : goal.nonzero-rem-block
-nonzero-rem-block g c = factor c.args.block c.size-with-size.result.stripes (c.size-with-size.result.slots - 2) (subst (λ (x : ℕ). c.args.block < x) c.block-count.ensures.value c.if-block-block-count.false)
+pub nonzero_rem-block : goal.nonzero_rem-block
+nonzero_rem-block g c = factor c.args.block c.size_with-size.result.stripes (c.size_with-size.result.slots - 2) (subst (λ (x : ℕ). c.args.block < x) c.block_count.ensures.value c.if-block-block_count.false)
 
-pub write-column-requires : goal.write-column-requires
-write-column-requires g c =
+pub write_column-requires : goal.write_column-requires
+write_column-requires g c =
     let v = c.args.self.now in
     let C = g.C.Code.coding v.code in
-    let z = c.size-with-size.result in
-    let valid = valid_at C (g.met.C.Code.lawful v.code) (g.L.Layout.slot v.layout) (g.L.Layout.column v.layout) (g.met.L.Layout.lawful v.layout) z c.size-with-size.ensures.fitting in
+    let z = c.size_with-size.result in
+    let valid = valid_at C (g.met.C.Code.lawful v.code) (g.L.Layout.slot v.layout) (g.L.Layout.column v.layout) (g.met.L.Layout.lawful v.layout) z c.size_with-size.ensures.fitting in
     let V = shape_at C (g.L.Layout.slot v.layout) (g.L.Layout.column v.layout) z in
-    let l : c.args.block < z.stripes * (z.slots - 2) = subst (λ (x : ℕ). c.args.block < x) c.block-count.ensures.value c.if-block-block-count.false in
+    let l : c.args.block < z.stripes * (z.slots - 2) = subst (λ (x : ℕ). c.args.block < x) c.block_count.ensures.value c.if-block-block_count.false in
     record {
-      fitting = c.size-with-size.ensures.fitting;
+      fitting = c.size_with-size.ensures.fitting;
       within = (stripe_below V valid c.args.block l, column_below V valid c.args.block l);
       sized = c.if-bytes-ne-BLOCK.false;
     }
@@ -76,13 +76,13 @@ returns g c =
     let V = shape_at C (g.L.Layout.slot v.layout) (g.L.Layout.column v.layout) in
     let M = members_of (g.B.Bank.meaning (g.B.Bank.state v.bank)) in
     let F = frontier_of v.table.rows in
-    let z = c.size-with-size.result in
-    let e = c.size-with-size.ensures.value in
-    let valid = valid_at C (g.met.C.Code.lawful v.code) (g.L.Layout.slot v.layout) (g.L.Layout.column v.layout) (g.met.L.Layout.lawful v.layout) _ (subst (Fitting C.limit) e c.size-with-size.ensures.fitting) in
+    let z = c.size_with-size.result in
+    let e = c.size_with-size.ensures.value in
+    let valid = valid_at C (g.met.C.Code.lawful v.code) (g.L.Layout.slot v.layout) (g.L.Layout.column v.layout) (g.met.L.Layout.lawful v.layout) _ (subst (Fitting C.limit) e c.size_with-size.ensures.fitting) in
     let old = c.args.bytes.now in
     let a = c.args.block in
-    let N = members_of (g.B.Bank.meaning (g.B.Bank.state c.write-column.new.bank)) in
-    let l : a < z.stripes * (z.slots - 2) = subst (λ (x : ℕ). a < x) c.block-count.ensures.value c.if-block-block-count.false in
-    let d = subst (λ (x : Size). WriteDone (V x) M F a old N (outcome c.write-column.result)) e
-    (write_within (V z) M F a old c.if-bytes-ne-BLOCK.false l N c.write-column.result c.write-column.ensures.answered c.write-column.ensures.taken c.write-column.ensures.refused) in
-    record { answered = d.answered; changes = d.changes; kept = record { code = refl; layout = refl; size = refl; table = refl }; loss = losses _ M F; right = λ room. writes _ valid M F room a old N (record { long = refl; bytes = λ i. (c.type-inv.bytes i).fits }) d.changes }
+    let N = members_of (g.B.Bank.meaning (g.B.Bank.state c.write_column.new.bank)) in
+    let l : a < z.stripes * (z.slots - 2) = subst (λ (x : ℕ). a < x) c.block_count.ensures.value c.if-block-block_count.false in
+    let d = subst (λ (x : Size). WriteDone (V x) M F a old N (outcome c.write_column.result)) e
+    (write_within (V z) M F a old c.if-bytes-ne-BLOCK.false l N c.write_column.result c.write_column.ensures.answered c.write_column.ensures.taken c.write_column.ensures.refused) in
+    record { answered = d.answered; changes = d.changes; kept = record { code = refl; layout = refl; size = refl; table = refl }; loss = losses _ M F; right = λ room. writes _ valid M F room a old N (record { long = refl; bytes = λ i. (c.type_inv.bytes i).fits }) d.changes }

@@ -22,7 +22,7 @@ rebuild-requires g c =
     record {
       shape = (c.requires.shape.0, c.requires.shape.2);
       sized = c.load.auto.into ∙ c.requires.sized;
-      surveyed = c.survey-of-survey.ensures.value;
+      surveyed = c.survey_of-survey.ensures.value;
       missing = ap (λ (ms : Slots). is_some (cols ms c.args.t)) c.load.ensures.same ∙ sym c.if-load.ensures.current;
     }
 
@@ -34,7 +34,7 @@ returns-then-survey-gt2 g c =
     let ms = g.B.Bank.meaning (g.B.Bank.state c.args.bank.now) in
     let o = cols ms c.args.t in
     let h = unloaded o c.if-load.ensures.current in
-    let m : c.survey-of-survey.result.missing ≡ missing (cols ms) (k + 2) = c.survey-of-survey.ensures.value.count ∙ ap (λ (x : Slots). missing (cols x) (k + 2)) c.load.ensures.same in
+    let m : c.survey_of-survey.result.missing ≡ missing (cols ms) (k + 2) = c.survey_of-survey.ensures.value.count ∙ ap (λ (x : Slots). missing (cols x) (k + 2)) c.load.ensures.same in
     let l : 2 < missing (cols ms) (k + 2) = omega arith in
     let e : c.loss_of.result ≡ loss_of (members_of ms) F c.args.n c.args.s = c.loss_of.ensures.value ∙ ap (λ (x : Slots). loss_of (members_of x) F c.args.n c.args.s) c.load.ensures.same in
     record {
@@ -49,7 +49,7 @@ returns g c =
     let k = c.args.n - 2 in
     let cols = λ (ms : Slots). columns_in ms c.args.table.now.rows (g.L.Layout.slot c.args.layout.now) c.args.n c.args.s in
     let ms = g.B.Bank.meaning (g.B.Bank.state c.args.bank.now) in
-    let m : c.survey-of-survey.result.missing ≡ missing (cols ms) (k + 2) = c.survey-of-survey.ensures.value.count ∙ ap (λ (x : Slots). missing (cols x) (k + 2)) c.load.ensures.same in
+    let m : c.survey_of-survey.result.missing ≡ missing (cols ms) (k + 2) = c.survey_of-survey.ensures.value.count ∙ ap (λ (x : Slots). missing (cols x) (k + 2)) c.load.ensures.same in
     let l : missing (cols ms) (k + 2) ≤ 2 = omega arith in
     record {
       answered = read_two (cols ms c.args.t) (missing (cols ms) (k + 2)) _ l;

@@ -23,8 +23,8 @@ rebuild-requires g c =
     record {
       shape = (omega arith, c.requires.fitting.reach);
       sized = refl;
-      surveyed = c.survey-of-survey.ensures.value;
-      missing = behind_missing M F s j _ (ap (g.L.Layout.slot c.args.layout.now n s) c.column-of-t.ensures.value ∙ (g.met.L.Layout.lawful c.args.layout.now n s).back j c.requires.within.0) c.requires.behind;
+      surveyed = c.survey_of-survey.ensures.value;
+      missing = behind_missing M F s j _ (ap (g.L.Layout.slot c.args.layout.now n s) c.column_of-t.ensures.value ∙ (g.met.L.Layout.lawful c.args.layout.now n s).back j c.requires.within.0) c.requires.behind;
     }
 
 pub returns : goal.returns
@@ -40,11 +40,11 @@ returns g c =
     let s = c.args.s in
     let j = c.args.slot in
     let m = missing (columns_in ms rows place n s) (n - 2 + 2) in
-    let e : c.survey-of-survey.result.missing ≡ m = c.survey-of-survey.ensures.value.count in
+    let e : c.survey_of-survey.result.missing ≡ m = c.survey_of-survey.ensures.value.count in
     let l : m ≤ 2 = omega arith in
     let f = le-ltb 2 m l in
     let col = recovered C (n - 2) (columns_in ms rows place n s) (g.L.Layout.column c.args.layout.now n s j) in
-    let v : c.rebuild.new.into ≡ col = c.rebuild.ensures.value ∙ ap (λ (x : ℕ). recovered C (n - 2) (columns_in ms rows place n s) x) c.column-of-t.ensures.value in
+    let v : c.rebuild.new.into ≡ col = c.rebuild.ensures.value ∙ ap (λ (x : ℕ). recovered C (n - 2) (columns_in ms rows place n s) x) c.column_of-t.ensures.value in
     let same : ns ≡ ms = c.rebuild.ensures.same in
     let h = subst (λ (x : List ℕ). Moved (λ a b. Written a s x b) j M O) v (subst (λ (x : Slots). Moved (λ a b. Written a s c.rebuild.new.into b) j (members_of x) O) same (written_moved s c.rebuild.new.into _ _ j c.write.ensures.after)) in
     record {

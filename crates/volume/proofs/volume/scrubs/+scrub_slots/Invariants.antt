@@ -1,4 +1,4 @@
 use Rattle.volume.proofs.volume.scrubs.+scrub_slots.Given as goal
 
-abbrev pub decreases-scrub-slots : goal.decreases-scrub-slots
-decreases-scrub-slots g l = l.i
+abbrev pub decreases-scrub_slots : goal.decreases-scrub_slots
+decreases-scrub_slots g l = l.i

@@ -36,12 +36,12 @@ returns g c =
     let ep : c.fetch-2.new.into ≡ recovered C k (cols ms) k = c.fetch-2.ensures.value ∙ ap (λ (x : Slots). recovered C k (cols x) k) one in
     let eq : c.fetch-3.new.into ≡ recovered C k (cols ms) (k + 1) =
     c.fetch-3.ensures.value ∙ ap (λ (x : Slots). recovered C k (cols x) (c.args.n - 1)) two ∙ ap (λ (t : ℕ). recovered C k (cols ms) t) last in
-    let d0 : c.xor-into.new.into ≡ c.fetch.new.into ⊕ c.args.bytes.now =
-    xor_done c.args.bytes.now c.fetch.new.into c.xor-into.new.into c.xor-into.result c.requires.sizes.0 c.fetch.auto.into c.xor-into.ensures.answered c.xor-into.ensures.after in
+    let d0 : c.xor_into.new.into ≡ c.fetch.new.into ⊕ c.args.bytes.now =
+    xor_done c.args.bytes.now c.fetch.new.into c.xor_into.new.into c.xor_into.result c.requires.sizes.0 c.fetch.auto.into c.xor_into.ensures.answered c.xor_into.ensures.after in
     let ed = d0 ∙ ap (λ (x : List ℕ). x ⊕ c.args.bytes.now) c.fetch.ensures.value in
     let ok : is_ok c.change.result ≡ _ =
-    change_ok C.limit c.args.c c.xor-into.new.into c.fetch-2.new.into c.fetch-3.new.into c.change.result (omega (arith, c.requires.shape.1, c.requires.shape.2))
-    (c.xor-into.auto.into ∙ c.fetch.auto.into) (c.fetch-2.auto.into ∙ c.requires.sizes.1) (c.fetch-3.auto.into ∙ c.requires.sizes.2) c.change.ensures.answered in
+    change_ok C.limit c.args.c c.xor_into.new.into c.fetch-2.new.into c.fetch-3.new.into c.change.result (omega (arith, c.requires.shape.1, c.requires.shape.2))
+    (c.xor_into.auto.into ∙ c.fetch.auto.into) (c.fetch-2.auto.into ∙ c.requires.sizes.1) (c.fetch-3.auto.into ∙ c.requires.sizes.2) c.change.ensures.answered in
     record {
       same = c.fetch-3.ensures.same ∙ two;
       p = change_done (λ (x : List ℕ). x) (is_ok c.change.result) _ _ _ _ _ ok ep ed c.change.ensures.p;

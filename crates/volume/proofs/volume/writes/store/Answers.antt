@@ -13,8 +13,8 @@ returns-then-has g c =
     let s = c.args.s in
     let v = c.args.bytes.now in
     record {
-      stored = subst (λ (i : ℕ). Moved (Put (due M F s i) s v) i M N) c.slot-of-slot.ensures.value
-          (stored_below M F s c.slot-of-slot.result v N (sym c.if-has.ensures.value) (written_moved s v _ _ _ c.write.ensures.after));
+      stored = subst (λ (i : ℕ). Moved (Put (due M F s i) s v) i M N) c.slot_of-slot.ensures.value
+          (stored_below M F s c.slot_of-slot.result v N (sym c.if-has.ensures.value) (written_moved s v _ _ _ c.write.ensures.after));
     }
 
 pub returns-else-has : goal.returns-else-has
@@ -24,5 +24,5 @@ returns-else-has g c =
     let s = c.args.s in
     let v = c.args.bytes.now in
     record {
-      stored = subst (λ (i : ℕ). Moved (Put (due M F s i) s v) i M M) c.slot-of-slot.ensures.value (stored_beyond M F s c.slot-of-slot.result v (sym c.if-has.ensures.value));
+      stored = subst (λ (i : ℕ). Moved (Put (due M F s i) s v) i M M) c.slot_of-slot.ensures.value (stored_beyond M F s c.slot_of-slot.result v (sym c.if-has.ensures.value));
     }
