@@ -1,5 +1,6 @@
 // The diagonal codes: a block as rows counted modulo a prime, and what RDP and EVENODD share of their arithmetic.
 #![tactic(auto)]
+
 ghost use Rattle.std.specs.Prelude.{◌≡◌, ℕ, ◌+◌, ◌-◌, ◌*◌, ◌%◌, ◌<◌, ◌≤◌, length, ◌≢◌};
 ghost use Rattle.std.specs.List.{between};
 ghost use Rattle.std.proofs.Math.Seq.{paste};

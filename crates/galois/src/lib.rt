@@ -1,5 +1,6 @@
 // The code P+Q over the field of 256 elements: Q adds up each data column times 2 to the power of its number.
 #![tactic(auto)]
+
 ghost use Rattle.std.specs.Prelude.{◌≡◌, ◌<◌};
 ghost use Rattle.field.specs.Field.{times, power, log, inverse};
 ghost use Rattle.field.specs.Mixing.{pq};

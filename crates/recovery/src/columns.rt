@@ -34,13 +34,11 @@ fn count_missing(present: &[bool]) -> usize
     count
 }
 
-// Notes column `t` as lost unless it is present. What was noted is changed in place, since a copy for each column is slow.
-fn note(lost: &mut Lost, t: usize, present: bool)
-    ensures after { lost.new ≡ (if present then lost.old else noted (t ∷ listed lost.old)) }
+// What is lost, with column `t` unless it is present.
+fn note(lost: Lost, t: usize, present: bool) -> Lost
+    ensures value { result ≡ (if present then lost else noted (t ∷ listed lost)) }
 {
-    if !present {
-        *lost = lost.with(t);
-    }
+    if present { lost } else { lost.with(t) }
 }
 
 // The missing ones of the first `k` columns.
@@ -50,7 +48,7 @@ fn lost_data(present: &[bool], k: usize) -> Lost
 {
     let mut lost = Lost::Nothing;
     for t in 0..k {
-        note(&mut lost, t, present[t]);
+        lost = note(lost, t, present[t]);
     }
     lost
 }

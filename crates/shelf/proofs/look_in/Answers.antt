@@ -4,8 +4,8 @@ use Rattle.shelf.specs.Shelves.{part}
 use Rattle.shelf.specs.ShelvesLemmas.{part_count, below_share, beyond_share, block_found, block_beyond}
 use Rattle.shelf.proofs.look_in.Goals as goal
 
-pub returns-then-block-ge-MOST-BLOCKS : goal.returns-then-block-ge-MOST-BLOCKS
-returns-then-block-ge-MOST-BLOCKS c =
+pub returns-then-block-ge-MOST_BLOCKS : goal.returns-then-block-ge-MOST_BLOCKS
+returns-then-block-ge-MOST_BLOCKS c =
     let xs = c.args.run.now in
     let there = c.if-slot-images.false in
     let count = part_count xs c.args.images c.args.slot there in

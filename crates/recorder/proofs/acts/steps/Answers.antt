@@ -16,7 +16,7 @@ loop-made-preserved g c =
     let h = c.loop-made.invariant in
     let u = c.loop-made.volume in
     let w = c.step.new.volume in
-    let n = c.loop-made.-made in
+    let n = c.loop-made._made in
     let l : c.in-Ok.frontier < (shape m v).stripes = (let s = c.stripes-stripes.ensures.value in omega (arith, c.if-frontier-stripes.false)) in
     (c.step.ensures.same ∙ h.0, going_more (shape m v) (shape m u) (state m v) (state m u) (state m w) i n h.0 h.1 c.in-Ok.frontier l c.in-Ok.ensures.goes)
 
@@ -28,7 +28,7 @@ returns-then-frontier-stripes g c =
     let h = c.loop-made.invariant in
     let u = c.loop-made.volume in
     let w = c.step.new.volume in
-    let n = c.loop-made.-made in
+    let n = c.loop-made._made in
     let l : (shape m v).stripes ≤ c.in-Ok.frontier = (let s = c.stripes-stripes.ensures.value in omega (arith, c.if-frontier-stripes.true)) in
     record {
       same = c.step.ensures.same ∙ h.0;
@@ -43,7 +43,7 @@ returns-in-Err g c =
     let h = c.loop-made.invariant in
     let u = c.loop-made.volume in
     let w = c.step.new.volume in
-    let n = c.loop-made.-made in
+    let n = c.loop-made._made in
     record {
       same = c.step.ensures.same ∙ h.0;
       steps = steps_halted (shape m v) (shape m u) (state m v) (state m u) (state m w) i n h.0 h.1 c.args.most (told c.in-Err.refusal) c.loop-made-test.true c.in-Err.ensures.goes;
@@ -56,6 +56,6 @@ returns g c =
     let i = c.args.order.now.slot in
     let h = c.loop-made.invariant in
     let u = c.loop-made.volume in
-    let n = c.loop-made.-made in
-    let e : n ≡ c.args.most = omega (arith, c.loop-made-test.false, c.loop-made.auto.-made-end) in
+    let n = c.loop-made._made in
+    let e : n ≡ c.args.most = omega (arith, c.loop-made-test.false, c.loop-made.auto._made-end) in
     record { same = h.0; steps = steps_spent (shape m v) (state m v) (state m u) i n c.args.most e h.1 }
