@@ -1,6 +1,7 @@
 // Members: numbered blocks of 512 bytes that may be unreadable, refuse writes or be gone. Here are the interface, its faults, and
 // the kinds at the bottom of every stack of layers.
 #![tactic(auto)]
+
 ghost use Rattle.std.specs.Prelude.{◌≡◌, ℕ, List, length};
 ghost use Rattle.member.specs.Faults.{cause_number, refusal, refused_with, ToldApart};
 ghost use Rattle.member.specs.Meaning.{Meaning, look_refusal, read_refusal, write_refusal, handed};

@@ -14,7 +14,7 @@ invariant_of-self c =
     let long : length run ≡ x.buffer.len = omega (arith, c.write_in.auto.run, c.deref_mut.ensures.len) in
     let before : (i : ℕ) → get_or c.deref_mut.result.now i 0 < 256 =
     λ i. subst (λ xs. get_or xs i 0 < 256) (sym c.deref_mut.ensures.value) (x.low i) in
-    ((λ i. subst (λ xs. get_or xs i 0 < 256) (sym (with_items_is x.buffer run long)) (c.write_in.ensures.low before i)), tt)
+    record { low = λ i. subst (λ xs. get_or xs i 0 < 256) (sym (with_items_is x.buffer run long)) (c.write_in.ensures.low before i) }
 
 pub returns : goal.returns
 returns c =
