@@ -1,22 +1,21 @@
 #!/usr/bin/env bash
-# Programs that must not compile. `rt must-fail` takes an edit for refused only where a proof fails, so what the compiler refuses is tried
-# here: each edit is made in a copy, and the compiler has to refuse it with its own word. The copy as it stands has to compile. Nothing is
-# proved here: the compiler alone is asked, with every library as source.
+# Programs that must not compile. A must-fail edit is taken for refused only where a proof fails, so what the compiler refuses is tried
+# here: each edit is made in a copy, and the compiler has to refuse it with its own word. The copy as it stands has to compile and run.
+# Nothing is proved here: `rt try` compiles a program from the sources, its libraries' too, and asks for no proof.
 set -u
 cd "$(dirname "$0")/.." || exit 2
-home=$(dirname "$(dirname "$(rt doc)")")
 copy=$(mktemp -d) || exit 2
 trap 'rm -rf "$copy"' EXIT
-cp -R crates.txt crates "$copy" && mkdir "$copy/program" || exit 2
+cp crates.txt "$copy" && tar -c --exclude=out crates | tar -x -C "$copy" && mkdir -p "$copy/crates/program/src" || exit 2
+echo 'program: code galois layout member bank contents volume' >> "$copy/crates.txt"
 
 # The program that is compiled: it formats a volume, reads it and rebuilds a stripe of a slot.
-cat > "$copy/program/main.rt" <<'END'
+cat > "$copy/crates/program/src/main.rt" <<'END'
+#![tactic(auto)]
+
 use bank::empty::NoMembers;
-use bank::empty::NoMembersBank;
 use galois::Pq;
-use galois::PqCode;
 use layout::Rotating;
-use layout::RotatingLayout;
 use volume::volume::blank::Blank;
 use volume::volume::rebuilds::Order;
 
@@ -34,25 +33,18 @@ fn main() {
 }
 END
 
-# The cases: label | file | text that stands in it once | what it is replaced by | the compiler's word
+# The cases: label | text that stands in the program once | what it is replaced by | the compiler's word
 cases=(
-    'a read of a blank volume|program/main.rt|parts.format()|parts|error[unknown-method]'
-    'an order that is let fall|program/main.rt|let _ = volume.close(order);||error[linear-value-let-go]'
-    'an order that is opened and not looked at|program/main.rt|let opened = volume.open(0);|let _ = volume.open(1); let opened = volume.open(0);|error[linear-value-let-go]'
-    'an order that is made up|program/main.rt|Ok(order) => order,|Ok(order) => { let _ = volume.close(order); Order { slot: 0 } }|error[private-field]'
-    'an order that is used after it was closed|program/main.rt|let _ = volume.close(order);|let _ = volume.close(order); let _ = volume.step(&order);|error[borrow-e0382]'
+    'a read of a blank volume|parts.format()|parts|error[unknown-method]'
+    'an order that is let fall|let _ = volume.close(order);||error[linear-value-let-go]'
+    'an order that is opened and not looked at|let opened = volume.open(0);|let _ = volume.open(1); let opened = volume.open(0);|error[linear-value-let-go]'
+    'an order that is made up|Ok(order) => order,|Ok(order) => { let _ = volume.close(order); Order { slot: 0 } }|error[private-field]'
+    'an order that is used after it was closed|let _ = volume.close(order);|let _ = volume.close(order); let _ = volume.step(&order);|error[borrow-e0382]'
 )
 
-# compiles: whether the copy compiles; what was said is in $copy/said
+# compiles: whether the copy compiles and runs; what was said is in $copy/said
 compiles() {
-    local words=(program/main.rt --crate-name program) name used
-    while IFS=: read -r name used; do
-        words+=(--lib "$name:$(echo $used | tr ' ' ,)=$home/$name/src/lib.rt")
-    done < "$home/libs.txt"
-    while IFS=: read -r name used; do
-        if [ -f "$copy/crates/$name/src/lib.rt" ]; then words+=(--lib "$name=crates/$name/src/lib.rt"); fi
-    done < <(grep -v '^#' crates.txt | grep :)
-    (cd "$copy" && "$home/bin/rattle-print-mir" "${words[@]}") > "$copy/said" 2>&1
+    (cd "$copy/crates/program" && rt try) > "$copy/said" 2>&1
 }
 
 if ! compiles; then
@@ -62,10 +54,11 @@ if ! compiles; then
 fi
 failed=0
 for case in "${cases[@]}"; do
-    IFS='|' read -r label file old new word <<< "$case"
+    IFS='|' read -r label old new word <<< "$case"
+    file=crates/program/src/main.rt
     text=$(< "$copy/$file")
     if [[ $text != *"$old"* || ${text#*"$old"} == *"$old"* ]]; then
-        echo "must not compile: $label: '$old' does not stand in $file once"
+        echo "must not compile: $label: '$old' does not stand in the program once"
         failed=1
         continue
     fi

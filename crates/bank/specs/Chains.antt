@@ -1,5 +1,5 @@
 -- A chain of members: what it is made of, what it means, and what a call makes of it.
-use Rattle.std.specs.Prelude.{ℕ, zero, suc, List, []}
+use Rattle.std.specs.Prelude.{ℕ, zero, suc, []}
 use Rattle.member.specs.Meaning.{Meaning}
 use Rattle.member.specs.Runs.{run_meaning}
 use Rattle.bank.specs.Slots.{Slots}

@@ -1,8 +1,7 @@
 -- A chain at a slot that is not its first, and the laws of chains.
-use Rattle.std.specs.Prelude.{◌≡◌, ℕ, zero, suc, ◌-◌, ◌<◌, ◌≤◌, true, false, cond, ltb, List, length, Some, Option, ◌≢◌, nat_lt, refl}
+use Rattle.std.specs.Prelude.{◌≡◌, ℕ, zero, suc, ◌-◌, ◌<◌, true, false, cond, ltb, List, Some, Option, ◌≢◌, nat_lt, refl}
 use Rattle.std.proofs.Common.{sym, ap, subst, ◌∙◌, ⊎_elim, arith}
 use Rattle.std.proofs.lemmas.Bool.{cases_Bool, ltb-true, ltb-false, lt-ltb, le-ltb}
-use Rattle.code.specs.Blocks.{Bytes}
 use Rattle.member.specs.Faults.{Refusal}
 use Rattle.member.specs.Meaning.{Meaning, Sound, handed}
 use Rattle.member.specs.Changes.{Written, Ticked, Renewed, Lawful as Member-lawful}

@@ -1,5 +1,6 @@
 // Banks: members in numbered slots. Here are the interface and its refusals; a call with a slot number touches that member alone.
 #![tactic(auto)]
+
 ghost use Rattle.std.specs.Prelude.{◌≡◌, ℕ, List, length, IfOk};
 ghost use Rattle.member.specs.Faults.{numbers, refusal};
 ghost use Rattle.member.specs.Meaning.{look_refusal, read_refusal, write_refusal};

@@ -1,5 +1,6 @@
 // Callers of banks: what generic code, and code on a bank of known kind, learns from the contracts alone.
 #![tactic(auto)]
+
 ghost use Rattle.std.specs.Prelude.{◌≡◌, true, false, not, ◌&&◌, None, ◌==◌};
 ghost use Rattle.member.specs.Runs.{cell_zeros};
 ghost use Rattle.bank.specs.Slots.{bank_refusal};

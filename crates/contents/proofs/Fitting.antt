@@ -1,5 +1,5 @@
 -- What fits, stripe by stripe and slot by slot.
-use Rattle.std.proofs.Common.{◌≡◌, ℕ, ◌+◌, ◌-◌, ◌*◌, ◌<◌, ◌≤◌, false, List, Option, sym, refl, ap, ◌∙◌, subst, ⊎_elim, div-add-mod' as div-add-mod'', arith}
+use Rattle.std.proofs.Common.{◌≡◌, ℕ, ◌+◌, ◌*◌, ◌<◌, ◌≤◌, false, List, Option, sym, refl, ap, ◌∙◌, subst, ⊎_elim, div-add-mod' as div-add-mod'', arith}
 use lib.Arith.{digits_lt}
 use Rattle.std.proofs.lemmas.Nat.{div_below, mod_below}
 use Rattle.std.proofs.lemmas.Bool.{ltb-false, cases_lt}

@@ -1,6 +1,6 @@
 -- What fits goes on fitting over replacements and rebuilds.
-use Rattle.std.proofs.Common.{◌≡◌, ℕ, ◌+◌, ◌<◌, ◌≤◌, Bool, true, false, cond, not, ◌&&◌, eqb, ltb, ◌⊎◌, List, length, is_ok, Some, None, Ok, Err, Option, Result, sym, refl, ap, ◌∙◌, subst, ap₂, inl, inr, ⊎_elim, arith}
-use Rattle.std.proofs.lemmas.Bool.{cases_Bool, cases_eq, cond-true, cond-false, eq-eqb, ne_eqb, ltb-true, ltb-false, lt-ltb, le-ltb, and_parts, not-true, true≢false}
+use Rattle.std.proofs.Common.{◌≡◌, ℕ, ◌+◌, ◌<◌, ◌≤◌, Bool, true, false, cond, not, ◌&&◌, ltb, ◌⊎◌, List, length, is_ok, Some, None, Err, Option, Result, sym, refl, ap, ◌∙◌, subst, ap₂, inl, inr, ⊎_elim, arith}
+use Rattle.std.proofs.lemmas.Bool.{cases_eq, cond-true, cond-false, eq-eqb, ne_eqb, ltb-true, ltb-false, lt-ltb, le-ltb, and_parts, not-true, true≢false}
 use Rattle.code.specs.Blocks.{block_size}
 use Rattle.parity.specs.Stripe.{Holds}
 use Rattle.member.specs.Faults as member
@@ -8,16 +8,15 @@ use Rattle.member.specs.Meaning.{Meaning, write_refusal}
 use Rattle.member.specs.Changes.{Written, Renewed}
 use Rattle.contents.specs.declared.SlotState.{SlotState}
 use Rattle.contents.specs.declared.SlotState.TheVariants.{Idle, Open}
-use Rattle.contents.specs.declared.SlotEvent.{SlotEvent}
 use Rattle.contents.specs.declared.SlotEvent.TheVariants.{Replaced, Opened, Stepped, Closed}
 use Rattle.contents.specs.declared.SlotRecord.{SlotRecord}
 use Rattle.contents.specs.Columns.{Members, Frontiers, held}
-use Rattle.contents.specs.Refusals.{Told, plain, with_loss, with_fault, answering, refusal_number}
-use Rattle.contents.specs.Records.{Records, frontiers, is_open, idle_at, open_at, with_record, answer_by, after_by, slot_after}
+use Rattle.contents.specs.Refusals.{Told, plain, with_loss, answering, refusal_number}
+use Rattle.contents.specs.Records.{Records, frontiers, is_open, idle_at, open_at, with_record, answer_by, after_by}
 use Rattle.contents.specs.Shapes.{Shape, Valid, Roomy, data_columns, lossy, loss_at, recovered_at, FitsVolume}
 use Rattle.contents.specs.Changes.{Moved}
 use Rattle.contents.specs.Theorems.{CountsKept, TellsLoss}
-use Rattle.contents.specs.Rebuilds.{event_records, replace_outcome, open_here, rebuilt, step_outcome, step_takes, ReplaceChanges, StepChanges, FitsOver, Replaces, Opens, Closes, Rebuilds, RebuildLosses}
+use Rattle.contents.specs.Rebuilds.{event_records, open_here, rebuilt, step_outcome, step_takes, ReplaceChanges, StepChanges, FitsOver, Replaces, Opens, Closes, Rebuilds, RebuildLosses}
 use Rattle.contents.proofs.Statuses.{shown, held_is}
 use Rattle.contents.proofs.Members.{holds_as, holds_none, written_count, written_gone, written_others, written_holds}
 use Rattle.contents.proofs.Fitting.{gives, gives_block, width, recovered_is, by_slot, from_slots}

@@ -1,5 +1,6 @@
 // What a volume holds and what its calls may do to it: the words that its calls answer in, and the theorems on its contents.
 #![tactic(auto)]
+
 ghost use Rattle.std.specs.Prelude.{◌≡◌};
 ghost use Rattle.contents.specs.declared.Refusal.TheVariants.{Failed};
 ghost use Rattle.contents.specs.Refusals.{told, outcome};

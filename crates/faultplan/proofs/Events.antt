@@ -1,5 +1,5 @@
 -- What each event changes in the checks that a table makes fail.
-use Rattle.std.proofs.Common.{◌≡◌, ℕ, ◌+◌, Bool, true, false, cond, ◌&&◌, eqb, ltb, List, map, sym, refl, ap, ◌∙◌, subst, ⊎_elim}
+use Rattle.std.proofs.Common.{◌≡◌, ℕ, ◌+◌, Bool, true, false, ◌&&◌, eqb, ltb, sym, refl, ap, ◌∙◌, ⊎_elim}
 use Rattle.std.proofs.lemmas.Bool.{false≢true, eqb-true, ne_eqb, and_parts, and_from, and_cases, and_left, and_right, cond_both, cases_Bool}
 use Rattle.faultplan.specs.declared.entry.Kind.{Kind}
 use Rattle.faultplan.specs.declared.entry.Kind.TheVariants.{Gone, Unreadable, Unwritable, Other}

@@ -1,5 +1,5 @@
 -- A fault layer keeps the laws of a member over whatever keeps them below.
-use Rattle.std.proofs.Common.{◌≡◌, ℕ, ◌<◌, ◌≤◌, Bool, true, false, cond, ◌||◌, eqb, ltb, List, length, is_some, Some, None, Option, sym, refl, ap, ◌∙◌, subst, ⊎_elim, arith}
+use Rattle.std.proofs.Common.{◌≡◌, ℕ, ◌<◌, Bool, true, false, cond, ◌||◌, eqb, ltb, List, length, is_some, Some, None, Option, sym, refl, ap, ◌∙◌, subst, ⊎_elim, arith}
 use Rattle.std.proofs.lemmas.Bool.{cond-true, cond-false, cond_both, cases_Bool, cases_eq, or_cases, or_left, or_right, or_from, false≢true, ltb-true, lt-ltb, eq-eqb, eqb-true, eqb-false}
 use Rattle.code.specs.Blocks.{Block, block_size}
 use Rattle.member.specs.declared.Cause.TheVariants.{Gone, Unwritable, NoBlock, BadBuffer}

@@ -1,5 +1,5 @@
 -- What a fault layer means by its table and by what is below it, and what each call makes of it.
-use Rattle.std.specs.Prelude.{ℕ, Bool, true, false, cond, ◌||◌, List, length, is_some, Some, None, Option, ◌==◌, nat_lt}
+use Rattle.std.specs.Prelude.{ℕ, false, cond, ◌||◌, List, length, is_some, Some, None, Option, ◌==◌, nat_lt}
 use Rattle.code.specs.Blocks.{block_size}
 use Rattle.member.specs.declared.Cause.TheVariants.{Gone}
 use Rattle.member.specs.Faults.{Origin, Refusal, raised, above}

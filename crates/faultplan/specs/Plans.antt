@@ -1,5 +1,5 @@
 -- The table of planned faults, and what becomes of it.
-use Rattle.std.specs.Prelude.{◌≡◌, ℕ, ◌+◌, Bool, true, false, cond, ◌||◌, List, [], ◌∷◌, map, replicate, Ok, Err, Result, ◌==◌, nat_lt, slice_set}
+use Rattle.std.specs.Prelude.{◌≡◌, ℕ, ◌+◌, Bool, false, cond, ◌||◌, List, [], ◌∷◌, map, replicate, Ok, Err, Result, ◌==◌, nat_lt, slice_set}
 use Rattle.faultplan.specs.declared.entry.Kind.{Kind}
 use Rattle.faultplan.specs.declared.entry.Kind.TheVariants.{Other}
 use Rattle.faultplan.specs.declared.entry.Phase.TheVariants.{Waiting, Active, Ended}

@@ -6,6 +6,7 @@
 // added never becomes active. After fresh a block is as readable as what is below, also one that had refused a write; the count
 // of ticks goes on.
 #![tactic(auto)]
+
 ghost use Rattle.std.specs.Prelude.{◌≡◌, ◌<◌, length, if◌then◌else◌, nat_eq};
 ghost use Rattle.member.specs.Faults.{cause_number, numbers, refusal, raised};
 ghost use Rattle.member.specs.Meaning.{write_refusal};

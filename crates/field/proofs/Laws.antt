@@ -1,5 +1,5 @@
 -- The laws of the code P+Q, from those of the elements.
-use Rattle.std.proofs.Common.{◌≡◌, ℕ, ◌-◌, ◌<◌, List, [], ◌∷◌, map, get_or, sym, refl, ap, ◌∙◌, subst, ap₂}
+use Rattle.std.proofs.Common.{◌≡◌, ℕ, ◌<◌, List, [], ◌∷◌, map, get_or, sym, refl, ap, ◌∙◌, subst, ap₂}
 use lib.Bits.{bit_xor}
 use lib.ListN.{length-map, get_or-map}
 use Rattle.std.proofs.lemmas.List.{ext_get_or}

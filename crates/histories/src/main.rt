@@ -1,6 +1,7 @@
 // Two volumes driven by lists of calls, with an order of the first given to the second. Its lines are compared with lines worked out by
 // hand.
 #![tactic(auto)]
+
 use bank::Bank;
 use bank::chain::Link;
 use bank::empty::NoMembers;

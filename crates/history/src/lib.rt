@@ -1,6 +1,7 @@
 // Histories of a volume: what its calls answer and change, and what is promised of every list of calls from its format on. The calls
 // themselves are made by the crates above.
 #![tactic(auto)]
+
 ghost use Rattle.history.specs.History.{EveryRun, KeptFromFormat, KeptByCalls, KeptIsRoomy, CanFormat, SomeFormatted, AlwaysAnswers, EveryCalls};
 
 // Every run of calls keeps the whole promise: reads hand out the last taken write, losses are real and named.

@@ -2,7 +2,6 @@
 use Rattle.std.proofs.Common.{◌≡◌, ℕ, cond, eqb, sym, refl, ap, ◌∙◌}
 use Rattle.member.specs.declared.Cause.{Cause}
 use Rattle.member.specs.declared.Cause.TheVariants.{Gone, Unreadable, Unwritable, NoBlock, BadBuffer, NoSlot}
-use Rattle.member.specs.declared.Fault.{Fault}
 use Rattle.member.specs.Faults.{cause_number, ToldApart}
 
 -- the cause of each number

@@ -1,5 +1,5 @@
 -- What a member means, and what it answers by that.
-use Rattle.std.specs.Prelude.{◌≡◌, ℕ, ◌<◌, ◌≤◌, Bool, cond, List, length, is_some, Some, None, Option, ◌==◌, nat_lt}
+use Rattle.std.specs.Prelude.{◌≡◌, ℕ, ◌≤◌, Bool, cond, List, length, is_some, Some, None, Option, ◌==◌, nat_lt}
 use Rattle.std.specs.Option.{unwrap_or}
 use Rattle.code.specs.Blocks.{Block, block_size}
 use Rattle.member.specs.declared.Cause.{Cause}

@@ -1,8 +1,8 @@
 -- The ways of a call on a member, for layers: with a good buffer and number the member's own tests are past.
-use Rattle.std.specs.Prelude.{◌≡◌, ℕ, ◌<◌, ◌≤◌, Bool, true, false, cond, ltb, ◌⊎◌, List, length, is_some, Some, None, Option, ◌==◌, ◌≢◌, nat_eq, nat_lt, refl}
-use Rattle.std.proofs.Common.{sym, ap, subst, ◌∙◌, inl, inr, ⊎_elim, arith}
+use Rattle.std.specs.Prelude.{◌≡◌, ℕ, ◌<◌, true, false, cond, ltb, List, length, is_some, Some, None, ◌==◌, ◌≢◌, nat_eq, nat_lt, refl}
+use Rattle.std.proofs.Common.{sym, ap, subst, ◌∙◌, ⊎_elim, arith}
 use Rattle.std.specs.Option.{unwrap_or}
-use Rattle.std.proofs.lemmas.Bool.{cond-true, cond-false, cond_both, lt-ltb, eq-eqb, eqb-true, ltb-true, cases_Bool, true≢false, false≢true}
+use Rattle.std.proofs.lemmas.Bool.{cond-true, cond-false, lt-ltb, eq-eqb, eqb-true, ltb-true, cases_Bool}
 use Rattle.member.specs.Faults.{Refusal}
 use Rattle.member.specs.Meaning.{Meaning, look_refusal, read_refusal, write_refusal, get_refusal, put_refusal, handed, checked}
 use Rattle.member.specs.Changes.{Taken, Spoiled, Written}

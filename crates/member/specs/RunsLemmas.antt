@@ -5,7 +5,7 @@ use Rattle.std.proofs.lemmas.List.{length-replicate}
 use borrow.Rule.Slice.PartMut.{put_mid}
 use Rattle.std.proofs.lemmas.Bool.{cond-true, cond-false, cond_both, lt-ltb, le-ltb, ltb-true, eq-eqb, eqb-true, cases_order}
 use Rattle.std.proofs.lemmas.Slice.{between_is, between-put_mid, take-put_mid_below, drop-put_mid}
-use Rattle.code.specs.Blocks.{Bytes, Block}
+use Rattle.code.specs.Blocks.{Block}
 use Rattle.code.proofs.Blocks.{bytes_zeros}
 use Rattle.member.specs.Meaning.{Sound, most_blocks, read_refusal, write_refusal, handed}
 use Rattle.member.specs.Changes.{Taken, Written, Ticked, Renewed, Lawful}

@@ -1,5 +1,6 @@
 // Prints the table of products of the field of 256 elements: line a has a × 0 .. a × 255, as two hexadecimal digits each.
 #![tactic(auto)]
+
 ghost use Rattle.std.specs.Prelude.{◌≡◌, ◌<◌, ◌++◌, IfOk, string_bytes, OnOk};
 ghost use Rattle.products.specs.Texts.{digit, hex, line, table};
 

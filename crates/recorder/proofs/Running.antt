@@ -1,20 +1,19 @@
 -- Operations and runs of operations, as parts of a volume's history.
-use Rattle.std.proofs.Common.{◌≡◌, ℕ, ◌+◌, ◌<◌, ◌≤◌, List, [], ◌++◌, IfOk, Some, None, Ok, Err, Option, Result, sym, refl, ap, ◌∙◌, subst, arith}
+use Rattle.std.proofs.Common.{◌≡◌, ℕ, ◌+◌, ◌<◌, ◌≤◌, List, [], ◌++◌, IfOk, Some, None, Ok, Err, Option, Result, sym, subst}
 use Rattle.contents.specs.Refusals.{Told}
 use Rattle.code.specs.Codes.{Coding}
 use Rattle.contents.specs.Columns.{Members}
 use Rattle.contents.specs.Changes.{FormatChanges}
 use Rattle.contents.specs.Records.{idle_at}
 use Rattle.contents.specs.Shapes.{Shape}
-use Rattle.history.specs.Calls.{State, Call, Answer}
+use Rattle.history.specs.Calls.{State, Answer}
 use Rattle.history.specs.Calls.Call.{open_slot, step, close}
 use Rattle.history.specs.Calls.Answer.{number, order, refused}
 use Rattle.history.specs.History.{Event, Kept}
 use Rattle.runs.specs.Told.{event, Goes_on}
 use Rattle.runs.proofs.Logged.{goes_nowhere, goes_further}
-use Rattle.script.specs.declared.parts.Act.{Act}
 use Rattle.script.specs.declared.parts.Act.TheVariants.{Rebuild}
-use Rattle.recorder.specs.Acts.{SteppedOn, none, more, Stopped, spent, ended, halted, Rebuilt, kept_shut, rebuilt, rebuild_line, ActsOn, StepsOn}
+use Rattle.recorder.specs.Acts.{SteppedOn, none, more, spent, ended, halted, kept_shut, rebuilt, rebuild_line, ActsOn, StepsOn}
 use Rattle.recorder.specs.Lines.{refused_line}
 use Rattle.recorder.specs.Slots.{recorder_shape, blank_members}
 use Rattle.recorder.specs.Runs.{Ran, start, next, RanOn, ActStep, AllLines, Replayed}

@@ -1,6 +1,7 @@
 // The recorder that a script is replayed on: six slots, rotating, each a remap layer with two spares over a fault layer over a cell
 // or over an image of eight blocks of zeros.
 #![tactic(auto)]
+
 ghost use Rattle.std.specs.Prelude.{◌≡◌, ◌<◌, true, false, IfOk, string_bytes, OnOk};
 ghost use Rattle.script.specs.Format.{is_script, entry_count, operation_count, code_at};
 ghost use Rattle.volume.specs.Volumes.{means, shape};

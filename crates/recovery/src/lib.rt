@@ -1,6 +1,7 @@
 // Encoding a stripe, recovering a lost column and changing a data column, by any code.
 // `loss`, `sums` and `ways` are the pieces for a caller that has the columns one at a time.
 #![tactic(auto)]
+
 ghost use Rattle.std.specs.Prelude.{◌≡◌, length};
 ghost use Rattle.code.specs.Blocks.{block_size, zeros};
 

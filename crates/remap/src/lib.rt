@@ -1,5 +1,6 @@
 // The remap layer: a member over any other, whose last blocks are spares. A block that refuses a write is moved to a spare.
 #![tactic(auto)]
+
 ghost use Rattle.std.specs.Prelude.{◌≡◌, ◌<◌, ◌≤◌, length, Some};
 ghost use Rattle.code.specs.Blocks.{block_size};
 ghost use Rattle.member.specs.Faults.{refusal};

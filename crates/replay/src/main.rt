@@ -1,5 +1,6 @@
 // Replays the script that standard input holds and prints its lines.
 #![tactic(auto)]
+
 use recorder::replay;
 use std::io::Read;
 

@@ -1,6 +1,7 @@
 // Replays many scripts and prints their texts one after the other, to compare with a reference. Standard input holds for each script a
 // 16-bit little-endian number of bytes and the bytes; a length that goes past the end ends there.
 #![tactic(auto)]
+
 use recorder::replay;
 use std::alloc::{AllocError, Global};
 use std::io::Read;

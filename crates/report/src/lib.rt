@@ -1,5 +1,6 @@
 // The report on a stripe: its two parity columns, and how it comes through the loss of any two columns.
 #![tactic(auto)]
+
 ghost use Rattle.std.specs.Prelude.{◌≡◌, ℕ, ◌+◌, ◌-◌, ◌*◌, ◌<◌, ◌≤◌, ◌++◌, length, IfOk, string_bytes, OnOk};
 ghost use Rattle.code.specs.Blocks.{block_size};
 ghost use Rattle.recovery.specs.Columns.{content};

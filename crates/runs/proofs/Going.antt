@@ -1,6 +1,6 @@
 -- A call that was made is one event more of the volume's history.
-use Rattle.std.proofs.Common.{◌≡◌, ℕ, Bool, true, false, cond, List, [], ◌∷◌, ◌++◌, length, is_ok, IfOk, Ok, Err, Result, sym, refl, ap, ◌∙◌, subst, arith}
-use Rattle.std.proofs.lemmas.Bool.{true≢false, false≢true, cond-true}
+use Rattle.std.proofs.Common.{◌≡◌, ℕ, Bool, true, false, cond, List, [], ◌∷◌, length, is_ok, IfOk, Ok, Err, Result, sym, refl, ap, ◌∙◌, subst, arith}
+use Rattle.std.proofs.lemmas.Bool.{false≢true}
 use Rattle.code.specs.Blocks.{Bytes}
 use Rattle.contents.specs.declared.Refusal.{Refusal}
 use Rattle.contents.specs.Refusals.{Told, answering}
@@ -8,7 +8,7 @@ use Rattle.contents.specs.Shapes.{Shape, Roomy}
 use Rattle.history.specs.Calls.{State, Call, Answer, Makes, answered}
 use Rattle.history.specs.Calls.Call.{tick, read, write, scrub, replace, open_slot, step, close, margin}
 use Rattle.history.specs.Calls.Answer.{bytes}
-use Rattle.history.specs.History.{Event, Kept, GivenBytes}
+use Rattle.history.specs.History.{GivenBytes}
 use Rattle.history.proofs.Logs.{kept_by_calls, kept_is_roomy}
 use Rattle.volume.specs.declared.volume.Volume.{Volume}
 use Rattle.volume.specs.declared.volume.rebuilds.Order.{Order}

@@ -1,6 +1,7 @@
 // Runs of calls on a volume, and what is promised of them. A call names an order by its place among those at hand, which may be another
 // volume's; none can be made up.
 #![tactic(auto)]
+
 ghost use Rattle.std.specs.Prelude.{◌≡◌, ℕ, ◌+◌, ◌<◌, ◌≤◌, false, List, [], length, IfOk, vec_len, vec_capacity, OnErr};
 ghost use Rattle.bank.specs.Slots.{told};
 ghost use Rattle.contents.specs.Records.{idle_at};

@@ -1,7 +1,6 @@
 -- A shelf: one buffer cut into equal images.
 use Rattle.std.specs.Prelude.{◌≡◌, ℕ, ◌+◌, ◌*◌, ◌/◌, ◌<◌, ◌≤◌, cond, List, ◌++◌, length, take, drop, nat_lt}
 use Rattle.code.specs.Blocks.{Bytes, block_size}
-use Rattle.member.specs.Meaning.{Meaning}
 use Rattle.member.specs.Runs.{image_meaning, image_wrote}
 use Rattle.bank.specs.Slots.{Slots}
 

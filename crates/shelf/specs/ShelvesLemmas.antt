@@ -1,5 +1,5 @@
 -- The images of a shelf: where they lie, what they hold, and that a change of one leaves the others.
-use Rattle.std.specs.Prelude.{◌≡◌, ℕ, suc, ◌+◌, ◌-◌, ◌*◌, ◌/◌, ◌^◌, ◌<◌, ◌≤◌, min, Bool, true, false, cond, List, ◌++◌, length, take, drop, is_some, Some, None, Option, ◌==◌, ◌≢◌, nat_lt, slice_index, slice_range, refl}
+use Rattle.std.specs.Prelude.{◌≡◌, ℕ, ◌+◌, ◌-◌, ◌*◌, ◌/◌, ◌^◌, ◌<◌, ◌≤◌, min, Bool, true, false, cond, List, ◌++◌, length, take, drop, is_some, Some, None, Option, ◌==◌, ◌≢◌, nat_lt, slice_index, slice_range, refl}
 use Rattle.std.proofs.Common.{sym, ap, subst, ◌∙◌, ⊎_elim, arith, mul-le-mul_right, suc-mul, mul_assoc, mul_comm, le-div_iff_mul-le, div-lt_iff_lt-mul, length-take, length-drop, take-append-drop}
 use Rattle.std.proofs.Math.Nat.{mul-div-le}
 use borrow.Rule.Slice.PartMut.{put_mid, same_len_mid}

@@ -1,6 +1,7 @@
 // A bank in one buffer that the caller hands over and gets back, cut into equal images. They are always present, readable and
 // writable, and the bytes of the buffer outside of them never change.
 #![tactic(auto)]
+
 ghost use Rattle.std.specs.Prelude.{◌≡◌, ℕ, ◌+◌, ◌*◌, ◌^◌, ◌<◌, ◌≤◌, length, IfOk, if◌then◌else◌, Some, None, nat_lt, slice_index};
 ghost use Rattle.code.specs.Blocks.{block_size};
 ghost use Rattle.member.specs.Meaning.{look_refusal, read_refusal, write_refusal};

@@ -1,5 +1,6 @@
 // Prints the report on the stripe that standard input holds.
 #![tactic(auto)]
+
 use report::report;
 use std::io::Read;
 

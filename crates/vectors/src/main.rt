@@ -1,5 +1,6 @@
 // Prints the reports on made-up stripes of all three codes and on tasks that are none, to compare with a reference.
 #![tactic(auto)]
+
 use report::report;
 use std::alloc::{AllocError, Global};
 

@@ -1,20 +1,19 @@
 -- What a read and a write answer, check by check.
-use Rattle.std.proofs.Common.{◌≡◌, ℕ, ◌+◌, ◌-◌, ◌*◌, ◌/◌, ◌%◌, ◌<◌, ◌≤◌, Bool, true, false, cond, not, ◌&&◌, eqb, ltb, List, length, is_some, is_ok, Some, None, Ok, Err, Option, Result, sym, refl, ap, ◌∙◌, subst, ⊎_elim, mul-zero, arith}
-use Rattle.std.proofs.lemmas.Bool.{true≢false, false≢true, cases_eq, and_from, and_left, and_right, cond-true, cond-false, lt-ltb, le-ltb, ne_eqb, eq-eqb, not_from_true, not_from_false, not-true, not-false}
+use Rattle.std.proofs.Common.{◌≡◌, ℕ, ◌*◌, ◌<◌, ◌≤◌, Bool, true, false, cond, not, ◌&&◌, eqb, ltb, List, length, is_some, is_ok, Some, None, Ok, Err, Option, Result, sym, refl, ap, ◌∙◌, ⊎_elim, mul-zero, arith}
+use Rattle.std.proofs.lemmas.Bool.{false≢true, cases_eq, and_from, and_left, and_right, cond-true, cond-false, lt-ltb, le-ltb, ne_eqb, eq-eqb, not_from_true, not_from_false, not-true, not-false}
 use Rattle.code.specs.Blocks.{block_size}
 use Rattle.code.specs.Codes.{Coding, Lawful}
-use Rattle.parity.specs.Ways.{or_else, recovered}
+use Rattle.parity.specs.Ways.{or_else}
 use Rattle.layout.specs.Placing.{Placing}
 use Rattle.contents.specs.declared.Refusal.{Refusal}
-use Rattle.contents.specs.declared.Loss.{Loss}
 use Rattle.contents.specs.Columns.{Members, Frontiers}
 use Rattle.contents.specs.Refusals.{Told, plain, with_loss, outcome}
-use Rattle.contents.specs.Shapes.{Shape, Valid, blocks, stripe_of, column_of, data_columns, columns_at, lossy, loss_at, recovered_at, shape_of}
-use Rattle.contents.specs.Answers.{if_sized, if_below, read_outcome, read_leaves, read_lost, unless_lost, write_takes, after_write, write_outcome, scrub_takes, scrub_outcome}
+use Rattle.contents.specs.Shapes.{Shape, Valid, blocks, stripe_of, column_of, lossy, loss_at, recovered_at}
+use Rattle.contents.specs.Answers.{read_outcome, read_leaves, read_lost, write_takes, after_write, write_outcome, scrub_takes, scrub_outcome}
 use Rattle.contents.specs.Changes.{Spread, WriteChanges, Scrubbed, ScrubChanges}
 use Rattle.volume.specs.Tallies.{counted}
 use Rattle.volume.specs.declared.size.Size.{Size}
-use Rattle.volume.specs.Sizes.{size_of, Fitting, shape_at}
+use Rattle.volume.specs.Sizes.{Fitting, shape_at}
 
 -- ---- the shape
 pub valid_at : (C : Coding) → Lawful block_size C → (slot column : ℕ → ℕ → ℕ → ℕ) → ((n s : ℕ) → Placing n (slot n s) (column n s)) → (z : Size) → Fitting C.limit z → Valid (shape_at C slot column z)

@@ -1,10 +1,10 @@
 -- The size and the shape that the parts of a volume make.
-use Rattle.std.proofs.Common.{◌≡◌, ℕ, ◌-◌, ◌<◌, ◌≤◌, Bool, true, false, cond, ◌&&◌, eqb, ltb, leb, sym, refl, ap, ◌∙◌, subst, ⊎_elim, arith}
-use Rattle.std.proofs.lemmas.Bool.{cases_Bool, and_from, and_left, and_parts, cond-true, cond-false, le-leb, leb-true, lt-leb}
+use Rattle.std.proofs.Common.{◌≡◌, ℕ, ◌≤◌, Bool, true, false, cond, leb, sym, refl, ap, ◌∙◌, ⊎_elim, arith}
+use Rattle.std.proofs.lemmas.Bool.{cases_Bool, and_from, and_parts, cond-true, cond-false, le-leb, leb-true}
 use Rattle.code.specs.Codes.{Coding}
 use Rattle.member.specs.Meaning.{most_blocks}
 use Rattle.contents.specs.Columns.{Members}
-use Rattle.contents.specs.Shapes.{Shape, shape_of, formed, fit, smallest}
+use Rattle.contents.specs.Shapes.{shape_of, formed, fit, smallest}
 use Rattle.contents.proofs.Forming.{smallest_few}
 use Rattle.volume.specs.declared.size.Size.{Size}
 use Rattle.volume.specs.Sizes.{settled, size_of, shape_at}

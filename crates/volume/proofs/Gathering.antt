@@ -1,5 +1,5 @@
 -- Sums over the current columns of a stripe, and what they recover.
-use Rattle.std.proofs.Common.{◌≡◌, ℕ, ◌+◌, ◌<◌, ◌≤◌, Bool, true, false, cond, ◌&&◌, ltb, leb, List, length, is_some, is_ok, Some, None, Option, Result, sym, refl, ap, ◌∙◌, subst, arith}
+use Rattle.std.proofs.Common.{◌≡◌, ℕ, ◌+◌, ◌<◌, ◌≤◌, Bool, true, false, cond, ◌&&◌, List, length, is_some, is_ok, Some, None, Option, Result, sym, refl, ap, ◌∙◌}
 use Rattle.std.proofs.lemmas.Bool.{true≢false, false≢true, and_from, cond-true, le-leb, lt-ltb}
 use Rattle.code.specs.declared.CodeRefusal.{CodeRefusal}
 use Rattle.code.specs.Blocks.{◌⊕◌, zeros, block_size}

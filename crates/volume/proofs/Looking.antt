@@ -1,15 +1,14 @@
 -- What looks and reads tell of the members of a bank.
-use Rattle.std.proofs.Common.{◌≡◌, ℕ, ◌<◌, ◌≤◌, Bool, true, false, cond, not, ◌&&◌, eqb, ltb, List, length, is_some, is_ok, Some, None, Ok, Err, Option, Result, unwrap_or, sym, refl, ap, ◌∙◌, subst, ⊎_elim, arith}
+use Rattle.std.proofs.Common.{◌≡◌, ℕ, ◌<◌, ◌≤◌, Bool, true, false, cond, not, ltb, List, length, is_some, is_ok, Some, None, Ok, Err, Option, Result, unwrap_or, sym, refl, ap, ◌∙◌, ⊎_elim, arith}
 use Rattle.std.proofs.lemmas.Bool.{true≢false, false≢true, cases_Bool, cond-true, cond-false, and_from, and_left, and_right, eq-eqb, lt-ltb, le-ltb, ltb-true, ltb-false}
 use Rattle.code.specs.Blocks.{block_size}
 use Rattle.parity.specs.Ways.{or_else}
 use Rattle.member.specs.Faults.{Refusal, Origin, refused_with, raised}
 use Rattle.member.specs.declared.Cause.TheVariants.{Gone, Unreadable}
-use Rattle.member.specs.Meaning.{Meaning, Sound, look_refusal, get_refusal, read_refusal, handed}
+use Rattle.member.specs.Meaning.{Meaning, Sound, look_refusal, read_refusal}
 use Rattle.bank.specs.declared.BankFault.{BankFault}
 use Rattle.bank.specs.Slots.{Slots, bank_refusal, no_slot, on_slot, slot_handed}
 use Rattle.contents.specs.Columns.{Frontiers, held, status}
-use Rattle.contents.specs.declared.Status.{Status}
 use Rattle.contents.specs.declared.Status.TheVariants as st
 use Rattle.contents.proofs.Statuses.{shown, held_is, status_is, status_by}
 use Rattle.volume.specs.Slots.{members_of, empty_member}

@@ -1,12 +1,12 @@
 -- What events on a slot and steps of a rebuild answer and change, check by check.
-use Rattle.std.proofs.Common.{◌≡◌, ℕ, ◌+◌, ◌<◌, ◌≤◌, Bool, true, false, cond, not, ◌&&◌, eqb, ltb, List, length, get_or, set, is_some, is_ok, Some, None, Ok, Err, Option, Result, sym, refl, ap, ◌∙◌, subst, ap₂, ⊎_elim, arith, get_or-set_other, get_or-set_same}
+use Rattle.std.proofs.Common.{◌≡◌, ℕ, ◌+◌, ◌<◌, ◌≤◌, Bool, true, false, cond, not, ◌&&◌, ltb, List, length, get_or, set, is_some, is_ok, Some, None, Ok, Err, Option, Result, sym, refl, ap, ◌∙◌, ap₂, ⊎_elim, arith, get_or-set_other, get_or-set_same}
 use mathlib.Core.Path.{fun_ext}
-use Rattle.std.proofs.lemmas.Bool.{true≢false, false≢true, cases_eq, cases_lt, cond-true, cond-false, eq-eqb, ne_eqb, lt-ltb, le-ltb, ltb-true, and_parts, not-true, not-false}
+use Rattle.std.proofs.lemmas.Bool.{false≢true, cases_eq, cases_lt, cond-true, cond-false, eq-eqb, ne_eqb, lt-ltb, le-ltb, and_parts, not-true, not-false}
 use Rattle.code.specs.Blocks.{block_size}
 use Rattle.member.specs.Faults.{Refusal}
 use Rattle.member.specs.Meaning.{Meaning, write_refusal}
 use Rattle.member.specs.Changes.{Written, Renewed}
-use Rattle.bank.specs.Slots.{Slots, no_slot, on_slot}
+use Rattle.bank.specs.Slots.{Slots, on_slot}
 use Rattle.bank.specs.Changes.{Changed}
 use Rattle.contents.specs.declared.SlotState.{SlotState}
 use Rattle.contents.specs.declared.SlotState.TheVariants.{Idle, Open}
@@ -15,12 +15,12 @@ use Rattle.contents.specs.declared.SlotEvent.TheVariants.{Stepped}
 use Rattle.contents.specs.declared.SlotRecord.{SlotRecord}
 use Rattle.contents.specs.Columns.{Members, Frontiers, held}
 use Rattle.contents.specs.Refusals.{Told, plain, with_loss, with_fault, answering}
-use Rattle.contents.specs.Records.{Records, frontiers, is_open, idle_at, open_at, with_record, slot_after, slot_answer, after_by, answer_by}
-use Rattle.contents.specs.Shapes.{Shape, Roomy, lossy, loss_at, recovered_at}
+use Rattle.contents.specs.Records.{Records, frontiers, is_open, idle_at, with_record, slot_after, slot_answer, answer_by}
+use Rattle.contents.specs.Shapes.{Shape, lossy, loss_at, recovered_at}
 use Rattle.contents.specs.Changes.{Moved}
 use Rattle.contents.specs.Rebuilds.{event_outcome, event_records, open_here, rebuilt, step_outcome, step_takes, StepChanges}
 use Rattle.contents.proofs.Statuses.{shown, held_is}
-use Rattle.volume.specs.Slots.{members_of, empty_member, records_of}
+use Rattle.volume.specs.Slots.{members_of, records_of}
 use Rattle.volume.proofs.Looking.{members_here, members_beyond, members_empty}
 use Rattle.volume.proofs.Walking.{moved_of}
 

@@ -1,12 +1,12 @@
 -- A scrub, slot by slot.
-use Rattle.std.proofs.Common.{◌≡◌, ℕ, ◌+◌, ◌-◌, ◌<◌, ◌≤◌, Bool, true, false, cond, not, ◌&&◌, eqb, ltb, List, length, is_some, is_ok, Some, None, Option, Result, sym, refl, ap, ◌∙◌, subst, ap₂, ⊎_elim, add-zero, arith}
+use Rattle.std.proofs.Common.{◌≡◌, ℕ, ◌+◌, ◌<◌, ◌≤◌, Bool, true, false, cond, not, ◌&&◌, List, is_some, is_ok, Some, Option, Result, sym, refl, ap, ◌∙◌, subst, ap₂, ⊎_elim, add-zero, arith}
 use Rattle.std.proofs.lemmas.Bool.{true≢false, false≢true, cases_lt, cond-true, cond-false, lt-ltb, le-ltb}
 use Rattle.code.specs.Blocks.{block_size}
 use Rattle.member.specs.Faults.{Refusal}
 use Rattle.member.specs.Meaning.{Meaning, write_refusal}
 use Rattle.member.specs.Changes.{Written}
 use Rattle.bank.specs.declared.BankFault.{BankFault}
-use Rattle.bank.specs.Slots.{Slots, bank_refusal, no_slot, on_slot}
+use Rattle.bank.specs.Slots.{Slots, bank_refusal, on_slot}
 use Rattle.contents.specs.declared.Status.{Status}
 use Rattle.contents.specs.declared.Status.TheVariants as st
 use Rattle.contents.specs.Columns.{Members, Frontiers, status, held, is_current, is_unreadable, is_absent, count}
@@ -16,7 +16,7 @@ use Rattle.contents.proofs.Statuses.{current_is}
 use Rattle.contents.proofs.Masks.{count_none, count_more, count_le}
 use Rattle.contents.proofs.Walks.{steps_none, steps_more, walk_rest}
 use Rattle.volume.specs.declared.survey.Tally.{Tally}
-use Rattle.volume.specs.Slots.{members_of, empty_member}
+use Rattle.volume.specs.Slots.{members_of}
 use Rattle.volume.specs.Tallies.{tally_of, with_standing, with_mend}
 use Rattle.volume.proofs.Looking.{ok_is, members_here, members_beyond, members_empty}
 

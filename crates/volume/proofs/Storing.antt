@@ -1,11 +1,10 @@
 -- Writes to the columns of a stripe.
-use Rattle.std.proofs.Common.{◌≡◌, ℕ, ◌+◌, ◌-◌, ◌<◌, ◌≤◌, Bool, true, false, cond, ◌&&◌, eqb, ltb, List, length, is_ok, Ok, Err, Result, sym, refl, ap, ◌∙◌, subst, ap₂, ⊎_elim, arith}
+use Rattle.std.proofs.Common.{◌≡◌, ℕ, ◌<◌, ◌≤◌, Bool, true, false, cond, ◌&&◌, eqb, ltb, List, length, is_ok, Ok, Err, Result, sym, refl, ap, ◌∙◌, ap₂, ⊎_elim, arith}
 use Rattle.std.proofs.lemmas.Bool.{true≢false, cases_Bool, cond-true, cond-false, lt-ltb, le-ltb}
 use Rattle.code.specs.declared.CodeRefusal.{CodeRefusal}
 use Rattle.code.specs.Blocks.{◌⊕◌, block_size}
-use Rattle.code.specs.Codes.{Coding}
 use Rattle.code.specs.Answers.{answer, sized, on_buffers, on_column}
-use Rattle.member.specs.Meaning.{Meaning, write_refusal}
+use Rattle.member.specs.Meaning.{Meaning}
 use Rattle.member.specs.Changes.{Written}
 use Rattle.recovery.proofs.Outcomes.{taken_ok, good_two, good_three, column_taken}
 use Rattle.contents.specs.Columns.{Members, Frontiers}

@@ -1,5 +1,5 @@
 -- What is missing of a stripe, column by column, and what is lost, slot by slot.
-use Rattle.std.proofs.Common.{◌≡◌, ℕ, zero, suc, ◌+◌, ◌*◌, ◌^◌, ◌<◌, ◌≤◌, Bool, true, false, cond, List, [], ◌∷◌, length, is_some, Option, sym, refl, ap, ◌∙◌, subst, ap₂, add-zero, add_assoc, pow-suc, add-one, arith, pow_mono, pow-add}
+use Rattle.std.proofs.Common.{◌≡◌, ℕ, zero, suc, ◌+◌, ◌*◌, ◌^◌, ◌<◌, ◌≤◌, Bool, true, false, cond, List, [], ◌∷◌, length, is_some, Option, sym, refl, ap, ◌∙◌, ap₂, add-zero, add_assoc, pow-suc, arith, pow_mono, pow-add}
 use Rattle.std.proofs.lemmas.Bool.{cond_both}
 use Rattle.parity.specs.Stripe.{gaps, missing}
 use Rattle.parity.proofs.Gaps.{gaps_none, gaps_more, missing_more}
@@ -10,7 +10,7 @@ use Rattle.contents.specs.declared.Loss.{Loss}
 use Rattle.contents.specs.declared.Status.{Status}
 use Rattle.contents.specs.declared.Status.TheVariants.{Current, Gone, Behind, Unreadable}
 use Rattle.contents.specs.Columns.{Members, Frontiers, status, is_gone, is_behind, is_unreadable, mask, loss_of}
-use Rattle.contents.proofs.Masks.{loss_none, loss_more}
+use Rattle.contents.proofs.Masks.{loss_more}
 use Rattle.volume.specs.Masks.{Room, with_status}
 
 -- ---- columns

@@ -1,13 +1,12 @@
 -- What calls on a bank, slot by slot, make of its members.
-use Rattle.std.proofs.Common.{◌≡◌, ℕ, ◌+◌, ◌-◌, ◌<◌, ◌≤◌, Bool, true, false, cond, not, ◌&&◌, ◌||◌, eqb, ltb, List, length, Some, None, Option, sym, refl, ap, ◌∙◌, subst, ap₂, ⊎_elim, add-one, arith}
-use Rattle.std.proofs.lemmas.Bool.{true≢false, cases_Bool, cases_lt, cond-true, cond-false, lt-ltb, le-ltb}
+use Rattle.std.proofs.Common.{◌≡◌, ℕ, ◌+◌, ◌<◌, ◌≤◌, true, false, cond, ◌&&◌, eqb, ltb, List, length, Some, None, sym, refl, ap, ◌∙◌, subst, ap₂, ⊎_elim, add-one, arith}
+use Rattle.std.proofs.lemmas.Bool.{cases_Bool, cases_lt, cond-true, cond-false, lt-ltb, le-ltb}
 use Rattle.code.specs.Blocks.{block_size}
 use Rattle.member.specs.Faults.{Refusal}
 use Rattle.member.specs.Meaning.{Meaning, write_refusal}
 use Rattle.member.specs.Changes.{Written, Ticked}
 use Rattle.bank.specs.Slots.{Slots}
 use Rattle.bank.specs.Changes.{Changed}
-use Rattle.contents.specs.Columns.{Members}
 use Rattle.contents.specs.Changes.{Moved}
 use Rattle.contents.proofs.Members.{written_count}
 use Rattle.volume.specs.Slots.{members_of, empty_member}

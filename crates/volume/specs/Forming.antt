@@ -1,5 +1,5 @@
 -- The size that the parts of a volume make.
-use Rattle.std.specs.Prelude.{ℕ, Bool, cond}
+use Rattle.std.specs.Prelude.{ℕ, cond}
 use Rattle.contents.specs.Columns.{Members}
 use Rattle.contents.specs.Shapes.{fit, smallest}
 use Rattle.volume.specs.declared.size.Size.{Size}

@@ -1,5 +1,5 @@
 -- How many slots and stripes a volume has.
-use Rattle.std.specs.Prelude.{◌≡◌, ℕ, ◌-◌, ◌<◌, ◌≤◌, Bool, cond, ◌&&◌, nat_le}
+use Rattle.std.specs.Prelude.{ℕ, ◌-◌, ◌<◌, ◌≤◌, Bool, cond, ◌&&◌, nat_le}
 use Rattle.code.specs.Codes.{Coding}
 use Rattle.member.specs.Meaning.{most_blocks}
 use Rattle.contents.specs.Shapes.{Shape, shape_of, fit}

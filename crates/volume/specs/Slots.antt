@@ -1,7 +1,6 @@
 -- The slots of a volume: their records, and the members that lie in them.
 use Rattle.std.specs.Prelude.{◌≡◌, ℕ, ◌+◌, false, cond, ◌&&◌, List, is_some, Some, None, Option, nat_lt, slice_index_or}
 use Rattle.parity.specs.Stripe.{gaps, missing}
-use Rattle.recovery.specs.declared.loss.Lost.{Lost}
 use Rattle.recovery.specs.Losses.{noted}
 use Rattle.member.specs.Faults.{Origin}
 use Rattle.member.specs.Meaning.{Meaning}

@@ -1,6 +1,7 @@
 // Volumes: a code, a layout and a bank of members, of which any two may be lost. Here is what all calls do with one stripe: see what is
 // missing of it, load its columns and recover them.
 #![tactic(auto)]
+
 ghost use Rattle.std.specs.Prelude.{◌≡◌, ◌+◌, ◌-◌, ◌*◌, ◌<◌, ◌≤◌, false, ◌∷◌, length, is_some, if◌then◌else◌};
 ghost use Rattle.code.specs.Blocks.{◌⊕◌, block_size, zeros};
 ghost use Rattle.parity.specs.Stripe.{missing, plain_part, mixed_part, if_present, plain_sum, mixed_sum};

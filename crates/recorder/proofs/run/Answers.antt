@@ -1,4 +1,4 @@
-use Rattle.std.proofs.Common.{◌≡◌, vec_items, string_bytes, ap, ◌∙◌}
+use Rattle.std.proofs.Common.{vec_items, string_bytes, ap, ◌∙◌}
 use Rattle.layout.specs.Placing.{rotated, unrotated}
 use Rattle.bank.specs.Slots.{told}
 use Rattle.bank.specs.Chains.{no_members}

@@ -1,4 +1,4 @@
-use Rattle.std.proofs.Common.{◌≡◌, ℕ, ◌+◌, ◌-◌, [], ◌++◌, length, get_or, string_bytes, sym, ap, ◌∙◌, arith}
+use Rattle.std.proofs.Common.{◌≡◌, ◌+◌, ◌-◌, [], ◌++◌, length, get_or, string_bytes, ap, ◌∙◌, arith}
 use Rattle.parity.specs.Stripe.{column}
 use Rattle.recovery.specs.Columns.{content}
 use Rattle.report.proofs.Texts.{four_parts, report_is}

@@ -1,8 +1,7 @@
-use Rattle.std.proofs.Common.{◌≡◌, ℕ, ◌+◌, ◌-◌, ◌<◌, true, false, List, ◌++◌, length, vec_items, string_bytes, sym, ap, ◌∙◌, ap₂, arith}
+use Rattle.std.proofs.Common.{◌≡◌, ◌+◌, ◌-◌, true, false, ◌++◌, length, vec_items, sym, ap, ◌∙◌, ap₂, arith}
 use Rattle.std.proofs.lemmas.Bool.{cond-true, cond-false}
-use Rattle.parity.specs.Stripe.{column}
 use Rattle.recovery.specs.Columns.{content}
-use Rattle.report.specs.Task.{is_stripe, stripe_report, report_by, width, data_block, bad_stripe}
+use Rattle.report.specs.Task.{is_stripe, stripe_report, report_by, data_block, bad_stripe}
 use Rattle.report.proofs.Texts.{made_as, report_same}
 use Rattle.report.proofs.Wholes.{column_same}
 use Rattle.report.proofs.report_by.Goals as goal

@@ -1,11 +1,9 @@
-use Rattle.std.proofs.Common.{◌≡◌, ℕ, ◌+◌, ◌*◌, ◌<◌, ◌≤◌, true, cond, List, [], ◌∷◌, ◌++◌, map, length, is_ok, vec_items, sym, ap, ◌∙◌, ap₂, add-zero, arith}
+use Rattle.std.proofs.Common.{◌≡◌, ◌+◌, ◌*◌, true, [], ◌∷◌, ◌++◌, map, length, is_ok, vec_items, ap, ◌∙◌, arith}
 use Rattle.std.specs.List.{range_with_len}
 use Rattle.std.proofs.lemmas.Bool.{cond-true, le-leb}
 use Rattle.std.proofs.lemmas.List.FromFn.{length-map-range_with_len}
-use Rattle.code.specs.Blocks.{Block, block_size}
+use Rattle.code.specs.Blocks.{block_size}
 use Rattle.parity.specs.Stripe.{Content, column}
-use Rattle.recovery.specs.Columns.{content}
-use Rattle.recovery.specs.Answers.{stripe_answer, on_count}
 use Rattle.report.specs.Task.{data_block}
 use Rattle.report.proofs.Wholes.{taken, whole_of, block_at, encoded_is, part_block}
 use Rattle.report.proofs.whole_stripe.Goals as goal

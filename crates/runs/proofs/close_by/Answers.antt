@@ -1,10 +1,10 @@
-use Rattle.std.proofs.Common.{◌≡◌, ℕ, ◌<◌, Bool, true, not, ltb, List, [], ◌∷◌, length, get_or, vec_items, sym, refl, ap, ◌∙◌, subst, arith}
+use Rattle.std.proofs.Common.{◌≡◌, ◌<◌, true, not, ltb, length, get_or, vec_items, sym, ap, ◌∙◌, subst, arith}
 use Rattle.std.proofs.lemmas.List.{get_or_default}
 use Rattle.std.proofs.lemmas.Bool.{cond-true, lt-ltb}
 use Rattle.contents.specs.Refusals.{outcome}
 use Rattle.history.specs.Calls.{answered}
 use Rattle.history.specs.Calls.Answer.{number}
-use Rattle.history.specs.Calls.Call.{step, close}
+use Rattle.history.specs.Calls.Call.{close}
 use Rattle.volume.specs.declared.volume.rebuilds.Order.{Order}
 use Rattle.volume.specs.Volumes.{means, shape}
 use Rattle.runs.specs.Told.{state, slot_at, event, answer_of, Goes_on}

@@ -1,4 +1,4 @@
-use Rattle.std.proofs.Common.{◌≡◌, ℕ, ◌<◌, ◌≤◌, List, get_or, sym, refl, ap, ◌∙◌, subst, arith}
+use Rattle.std.proofs.Common.{◌≡◌, ℕ, ◌<◌, List, get_or, ap, ◌∙◌, arith}
 use lib.ListN.{get_or-replicate}
 use Rattle.contents.specs.declared.SlotRecord.{SlotRecord}
 use Rattle.contents.specs.Records.{idle_at}

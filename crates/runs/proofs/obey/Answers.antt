@@ -1,4 +1,4 @@
-use Rattle.std.proofs.Common.{◌≡◌, ℕ, List, vec_items, sym, refl, ap, ◌∙◌, subst, arith}
+use Rattle.std.proofs.Common.{ℕ, List, vec_items, sym, refl, ap, ◌∙◌, subst, arith}
 use Rattle.contents.specs.Refusals.{outcome}
 use Rattle.history.specs.Calls.{answered}
 use Rattle.history.specs.Calls.Answer.{number}

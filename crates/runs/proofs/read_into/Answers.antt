@@ -1,4 +1,4 @@
-use Rattle.std.proofs.Common.{◌≡◌, List, sym, refl, ap, ◌∙◌, subst}
+use Rattle.std.proofs.Common.{List, sym, refl, ap, ◌∙◌, subst}
 use Rattle.std.proofs.lemmas.Bool.{cond-false, ne_eqb}
 use Rattle.contents.specs.Records.{frontiers}
 use Rattle.contents.specs.Shapes.{stripe_of, column_of, recovered_at}

@@ -1,4 +1,4 @@
-use Rattle.std.proofs.Common.{◌≡◌, ℕ, ◌+◌, ◌≤◌, length, take, vec_items, vec_len, vec_capacity}
+use Rattle.std.proofs.Common.{◌≡◌, ◌+◌, ◌≤◌, length, take, vec_items, vec_len, vec_capacity}
 use Rattle.volume.specs.Volumes.{means, shape}
 use Rattle.runs.specs.Told.{state, events, orders_left, AllMade, Goes_on}
 use Rattle.runs.proofs.run.Given as goal

@@ -1,4 +1,4 @@
-use Rattle.std.proofs.Common.{◌≡◌, ◌+◌, ◌*◌, ◌/◌, ◌^◌, ◌<◌, ◌≤◌, min, length, Some, sym, refl, ap, ◌∙◌, arith, rules}
+use Rattle.std.proofs.Common.{◌+◌, ◌*◌, ◌/◌, ◌^◌, ◌<◌, ◌≤◌, length, Some, sym, refl, ap, ◌∙◌, arith, rules}
 use Rattle.member.specs.Runs.{image_meaning}
 use Rattle.shelf.specs.Shelves.{part, span}
 use Rattle.shelf.specs.ShelvesLemmas.{room, part_count, block_found, block_beyond}

@@ -1,4 +1,4 @@
-use Rattle.std.proofs.Common.{◌≡◌, ◌/◌, ◌<◌, ◌≤◌, length, Some, sym, refl, ap, ◌∙◌, arith}
+use Rattle.std.proofs.Common.{◌/◌, ◌<◌, ◌≤◌, length, Some, sym, refl, ap, ◌∙◌, arith}
 use Rattle.member.specs.Runs.{image_meaning}
 use Rattle.shelf.specs.Shelves.{part}
 use Rattle.shelf.specs.ShelvesLemmas.{part_count, below_share, beyond_share, block_found, block_beyond}

@@ -1,4 +1,4 @@
-use Rattle.std.proofs.Common.{◌≡◌, ◌+◌, ◌-◌, ◌<◌, true, is_ok, sym, refl, ap, ◌∙◌, arith}
+use Rattle.std.proofs.Common.{◌≡◌, ◌+◌, ◌-◌, ◌<◌, true, is_ok, ◌∙◌, arith}
 use Rattle.parity.specs.Stripe.{plain_part, mixed_part}
 use Rattle.parity.specs.Ways.{takes_plain, takes_mixed}
 use Rattle.volume.specs.Slots.{columns_in}

@@ -1,4 +1,4 @@
-use Rattle.std.proofs.Common.{◌≡◌, ℕ, ◌+◌, ◌-◌, ◌<◌, cond, List, sym, refl, ap, ◌∙◌, subst, arith}
+use Rattle.std.proofs.Common.{◌≡◌, ℕ, ◌+◌, ◌-◌, cond, refl, ap, ◌∙◌, subst, arith}
 use Rattle.bank.specs.Slots.{Slots}
 use Rattle.code.specs.Blocks.{◌⊕◌, zeros}
 use Rattle.code.proofs.Blocks.{length_zeros}

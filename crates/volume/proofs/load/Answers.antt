@@ -1,4 +1,4 @@
-use Rattle.std.proofs.Common.{◌≡◌, ℕ, Bool, false, List, is_some, None, Option, sym, refl, ap, ◌∙◌, subst}
+use Rattle.std.proofs.Common.{◌≡◌, ℕ, List, is_some, None, Option, sym, refl, ap, ◌∙◌, subst}
 use Rattle.parity.specs.Ways.{or_else}
 use Rattle.contents.specs.Columns.{held}
 use Rattle.volume.specs.Slots.{members_of, frontier_of}

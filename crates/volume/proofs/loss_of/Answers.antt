@@ -1,4 +1,4 @@
-use Rattle.std.proofs.Common.{◌≡◌, ◌<◌, ◌≤◌, sym, refl, ◌∙◌, subst, arith}
+use Rattle.std.proofs.Common.{◌<◌, refl, arith}
 use Rattle.contents.proofs.Masks.{loss_none}
 use Rattle.volume.proofs.Surveying.{loss_room, loss_step, bit_room, bit_more}
 use Rattle.volume.proofs.loss_of.Goals as goal

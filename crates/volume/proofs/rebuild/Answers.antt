@@ -1,4 +1,4 @@
-use Rattle.std.proofs.Common.{◌≡◌, ◌-◌, refl, ◌∙◌}
+use Rattle.std.proofs.Common.{◌-◌, refl, ◌∙◌}
 use Rattle.code.specs.Blocks.{zeros}
 use Rattle.volume.specs.Slots.{columns_in}
 use Rattle.volume.proofs.Gathering.{rebuilt}

@@ -1,4 +1,4 @@
-use Rattle.std.proofs.Common.{◌≡◌, ℕ, ◌-◌, ◌≤◌, sym, refl, ap, ◌∙◌, subst, arith}
+use Rattle.std.proofs.Common.{◌≡◌, ℕ, ◌-◌, subst, arith}
 use Rattle.volume.specs.Slots.{columns_in}
 use Rattle.volume.proofs.Surveying.{Told, told_none, told_more, told_all, at_most_one}
 use Rattle.volume.proofs.survey_of.Goals as goal

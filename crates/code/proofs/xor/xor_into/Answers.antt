@@ -1,4 +1,4 @@
-use Rattle.std.proofs.Common.{◌≡◌, length, sym, ◌∙◌, arith, rules}
+use Rattle.std.proofs.Common.{◌∙◌, arith, rules}
 use Rattle.code.proofs.Blocks.{onto_same}
 use Rattle.code.proofs.xor.xor_into.Goals as goal
 

@@ -1,6 +1,6 @@
 use Rattle.std.proofs.Common.{replicate, refl, arith}
 use Rattle.prime.proofs.Repeats.{length_row, byte_of_zeros}
-use Rattle.prime.proofs.Walks.{Stride, stride, walked_none, walked_more, walk_solves, next_within, low_k, low_r, first_row}
+use Rattle.prime.proofs.Walks.{stride, walked_none, walked_more, walk_solves, next_within, low_k, low_r, first_row}
 use Rattle.diagonal.specs.Facts.{sizes_of}
 use Rattle.diagonal.proofs.Grid.solve_pair.Goals as goal
 

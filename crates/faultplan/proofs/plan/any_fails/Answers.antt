@@ -1,4 +1,4 @@
-use Rattle.std.proofs.Common.{◌≡◌, ◌<◌, length, sym, ap, ◌∙◌, arith}
+use Rattle.std.proofs.Common.{◌<◌, length, sym, arith}
 use Rattle.faultplan.specs.Entries.{fails}
 use Rattle.faultplan.proofs.Anys.{any_more, any_all, any_here}
 use Rattle.faultplan.proofs.plan.any_fails.Goals as goal

@@ -1,4 +1,4 @@
-use Rattle.std.proofs.Common.{◌≡◌, ◌<◌, Some, None, sym, ap, ◌∙◌, subst, arith}
+use Rattle.std.proofs.Common.{◌<◌, Some, None, sym, ap, ◌∙◌, subst, arith}
 use Rattle.member.specs.Faults.{numbers}
 use Rattle.member.specs.Changes.{Written}
 use Rattle.faultplan.specs.Layers.{planned, layer_meaning}

@@ -1,5 +1,5 @@
-use Rattle.std.proofs.Common.{◌≡◌, ℕ, ◌+◌, ◌-◌, ◌*◌, ◌<◌, length, take, drop, sym, ap, ◌∙◌, arith}
-use Rattle.member.specs.Runs.{whole_blocks, cut}
+use Rattle.std.proofs.Common.{◌≡◌, ◌+◌, ◌-◌, ◌*◌, ◌<◌, length, take, drop, sym, ap, ◌∙◌, arith}
+use Rattle.member.specs.Runs.{whole_blocks}
 use Rattle.member.specs.RunsLemmas.{read_ok, handed_ok}
 use Rattle.member.proofs.run.read_in.Goals as goal
 

@@ -1,4 +1,4 @@
-use Rattle.std.proofs.Common.{◌≡◌, sym, refl, ap, ◌∙◌, subst}
+use Rattle.std.proofs.Common.{refl, subst}
 use Rattle.contents.specs.Refusals.{outcome}
 use Rattle.history.specs.Calls.{answered}
 use Rattle.history.specs.Calls.Call.{tick, scrub, replace}

@@ -1,4 +1,4 @@
-use Rattle.std.proofs.Common.{◌≡◌, refl, ap, ◌∙◌}
+use Rattle.std.proofs.Common.{refl, ap}
 use Rattle.history.specs.Calls.Call.{read}
 use Rattle.history.specs.Calls.Answer.{bytes, refused}
 use Rattle.contents.specs.Refusals.{told}

@@ -1,4 +1,4 @@
-use Rattle.std.proofs.Common.{◌≡◌, ℕ, Some, None, sym, refl, ap, ◌∙◌, subst}
+use Rattle.std.proofs.Common.{ℕ, Some, None, sym, ◌∙◌, subst}
 use Rattle.contents.specs.Refusals.{told, outcome}
 use Rattle.history.specs.Calls.{answered}
 use Rattle.history.specs.Calls.Answer.{number}

@@ -1,4 +1,4 @@
-use Rattle.std.proofs.Common.{◌≡◌, ℕ, ◌<◌, ◌≤◌, sym, refl, ap, ◌∙◌, subst, arith}
+use Rattle.std.proofs.Common.{◌≡◌, ◌<◌, ◌≤◌, refl, ◌∙◌, arith}
 use Rattle.contents.specs.Refusals.{told}
 use Rattle.volume.specs.Volumes.{means, shape}
 use Rattle.runs.specs.Told.{state}

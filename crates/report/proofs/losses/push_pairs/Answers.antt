@@ -1,4 +1,4 @@
-use Rattle.std.proofs.Common.{◌≡◌, ◌+◌, ◌-◌, ◌++◌, length, string_bytes, sym, ap, ◌∙◌, arith}
+use Rattle.std.proofs.Common.{◌≡◌, ◌++◌, length, string_bytes, sym, ap, ◌∙◌, arith}
 use Rattle.report.specs.Text.{lines_below}
 use Rattle.report.proofs.Texts.{grown, same_text, below_none, below_more}
 use Rattle.report.proofs.losses.push_pairs.Goals as goal

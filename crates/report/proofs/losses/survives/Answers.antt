@@ -1,4 +1,4 @@
-use Rattle.std.proofs.Common.{◌≡◌, ℕ, ◌-◌, ◌≤◌, Bool, List, length, take, sym, ap, subst, arith, rules}
+use Rattle.std.proofs.Common.{◌≡◌, ℕ, ◌-◌, ◌≤◌, Bool, List, length, take, arith}
 use Rattle.parity.specs.Stripe.{missing}
 use Rattle.recovery.specs.Columns.{stripe_of}
 use Rattle.report.specs.Losses.{marks_without}

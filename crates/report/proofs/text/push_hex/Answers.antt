@@ -1,4 +1,4 @@
-use Rattle.std.proofs.Common.{◌≡◌, ℕ, List, ◌++◌, length, string_bytes, sym, ap, ◌∙◌, arith, take_all}
+use Rattle.std.proofs.Common.{◌++◌, string_bytes, sym, ap, ◌∙◌, arith, take_all}
 use Rattle.report.specs.Text.{hex}
 use Rattle.report.proofs.Texts.{grown, same_text, hex_none, hex_more}
 use Rattle.report.proofs.text.push_hex.Goals as goal

@@ -1,5 +1,4 @@
-use Rattle.std.proofs.Common.{◌≡◌, ℕ, List, ◌++◌, string_bytes, ap, ◌∙◌, append_assoc}
-use Rattle.report.specs.Text.{parity_line, hex}
+use Rattle.std.proofs.Common.{string_bytes}
 use Rattle.report.proofs.Texts.{four_parts}
 use Rattle.report.proofs.text.push_parity.Goals as goal
 

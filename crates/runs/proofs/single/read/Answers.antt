@@ -1,16 +1,12 @@
-use Rattle.std.proofs.Common.{◌≡◌, ℕ, cond, List, length, is_ok, sym, refl, ap, ◌∙◌, subst}
-use Rattle.bank.specs.Slots.{Slots}
+use Rattle.std.proofs.Common.{length, refl, ap, ◌∙◌}
 use Rattle.volume.specs.Slots.{members_of}
-use Rattle.volume.specs.Volumes.{means, shape, ordered}
-use Rattle.std.proofs.lemmas.Bool.{cond-false, ne_eqb}
+use Rattle.volume.specs.Volumes.{means, shape}
 use Rattle.contents.specs.Records.{frontiers}
 use Rattle.contents.specs.Shapes.{stripe_of, column_of, recovered_at}
 use Rattle.contents.specs.Answers.{read_outcome}
-use Rattle.contents.specs.Refusals.{outcome}
 use Rattle.history.specs.Calls.{answered, Makes}
-use Rattle.history.specs.Calls.Call.{tick, read, write, scrub, replace, open_slot, step, close, margin}
-use Rattle.history.specs.Calls.Answer.{done, bytes, number, counts, order}
-use Rattle.contents.specs.Shapes.{Roomy}
+use Rattle.history.specs.Calls.Call.{read}
+use Rattle.history.specs.Calls.Answer.{bytes}
 use Rattle.runs.specs.Told.{state}
 use Rattle.runs.proofs.Going.{shape_same, records_same, no_bytes, goes, handed_out}
 use Rattle.runs.proofs.single.read.Goals as goal

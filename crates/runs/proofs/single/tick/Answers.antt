@@ -1,14 +1,9 @@
-use Rattle.std.proofs.Common.{◌≡◌, List, length, sym, refl, ap, ◌∙◌, subst}
-use Rattle.bank.specs.Slots.{Slots}
-use Rattle.volume.specs.Slots.{members_of}
-use Rattle.volume.specs.Volumes.{means, shape, ordered}
-use Rattle.contents.specs.Refusals.{outcome}
-use Rattle.history.specs.Calls.{answered, Makes}
-use Rattle.history.specs.Calls.Call.{tick, read, write, scrub, replace, open_slot, step, close, margin}
-use Rattle.history.specs.Calls.Answer.{done, bytes, number, counts, order}
-use Rattle.contents.specs.Shapes.{Roomy}
+use Rattle.std.proofs.Common.{refl}
+use Rattle.volume.specs.Volumes.{means, shape}
+use Rattle.history.specs.Calls.{Makes}
+use Rattle.history.specs.Calls.Call.{tick}
 use Rattle.runs.specs.Told.{state}
-use Rattle.runs.proofs.Going.{shape_same, records_same, no_bytes, goes, handed_out}
+use Rattle.runs.proofs.Going.{shape_same, records_same, no_bytes, goes}
 use Rattle.runs.proofs.single.tick.Goals as goal
 
 pub returns : goal.returns

@@ -1,14 +1,10 @@
-use Rattle.std.proofs.Common.{◌≡◌, List, length, sym, refl, ap, ◌∙◌, subst}
-use Rattle.bank.specs.Slots.{Slots}
-use Rattle.volume.specs.Slots.{members_of}
-use Rattle.volume.specs.Volumes.{means, shape, ordered}
-use Rattle.contents.specs.Refusals.{outcome}
+use Rattle.std.proofs.Common.{refl, ap}
+use Rattle.volume.specs.Volumes.{means, shape}
 use Rattle.history.specs.Calls.{answered, Makes}
-use Rattle.history.specs.Calls.Call.{tick, read, write, scrub, replace, open_slot, step, close, margin}
-use Rattle.history.specs.Calls.Answer.{done, bytes, number, counts, order}
-use Rattle.contents.specs.Shapes.{Roomy}
+use Rattle.history.specs.Calls.Call.{write}
+use Rattle.history.specs.Calls.Answer.{number}
 use Rattle.runs.specs.Told.{state}
-use Rattle.runs.proofs.Going.{shape_same, records_same, given, goes, handed_out}
+use Rattle.runs.proofs.Going.{shape_same, records_same, given, goes}
 use Rattle.runs.proofs.single.write.Goals as goal
 
 pub returns : goal.returns

@@ -1,7 +1,7 @@
-use Rattle.std.proofs.Common.{◌≡◌, Bool, true, false, is_some, sym, refl, ap, ◌∙◌}
+use Rattle.std.proofs.Common.{true, false, sym, refl, ◌∙◌}
 use Rattle.std.proofs.lemmas.Bool.{true≢false}
-use Rattle.volume.specs.Slots.{members_of, frontier_of}
-use Rattle.volume.proofs.Looking.{seen_by, seen_told, told_gone, told_present}
+use Rattle.volume.specs.Slots.{frontier_of}
+use Rattle.volume.proofs.Looking.{seen_told, told_gone, told_present}
 use Rattle.volume.proofs.members.status_of.Goals as goal
 
 pub returns-then-is_ok : goal.returns-then-is_ok

@@ -1,4 +1,4 @@
-use Rattle.std.proofs.Common.{ℕ, min, sym, ap, ◌∙◌, ap₂}
+use Rattle.std.proofs.Common.{min, sym, ◌∙◌, ap₂}
 use Rattle.contents.proofs.Forming.{smallest_none, smallest_more}
 use Rattle.volume.proofs.walks.smallest_count.Goals as goal
 

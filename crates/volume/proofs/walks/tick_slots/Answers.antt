@@ -1,4 +1,4 @@
-use Rattle.std.proofs.Common.{◌≡◌, ◌∙◌}
+use Rattle.std.proofs.Common.{◌∙◌}
 use Rattle.contents.proofs.Walks.{steps_none, steps_more}
 use Rattle.volume.proofs.Walking.{ticked_moved, turn_none, turn_more}
 use Rattle.volume.proofs.walks.tick_slots.Goals as goal

@@ -1,4 +1,4 @@
-use Rattle.std.proofs.Common.{ℕ, ◌+◌, ◌||◌, ltb, sym, ap, ◌∙◌, ap₂, arith}
+use Rattle.std.proofs.Common.{ℕ, ◌+◌, ◌||◌, ltb, sym, ◌∙◌, ap₂, arith}
 use Rattle.volume.specs.Slots.{members_of, frontier_of}
 use Rattle.contents.proofs.Masks.{count_none, count_more, count_le}
 use Rattle.volume.proofs.walks.weak_slots.Goals as goal

@@ -1,4 +1,4 @@
-use Rattle.std.proofs.Common.{◌≡◌, ◌∙◌}
+use Rattle.std.proofs.Common.{◌∙◌}
 use Rattle.code.specs.Blocks.{zeros}
 use Rattle.contents.proofs.Walks.{steps_none, steps_more}
 use Rattle.volume.specs.Turns.{in_turn}

@@ -1,5 +1,5 @@
 use Rattle.code.specs.Blocks.{zeros}
-use Rattle.member.specs.Changes.{Ticked, Written}
+use Rattle.member.specs.Changes.{Written}
 use Rattle.contents.specs.Changes.{Steps, Moved}
 use Rattle.std.proofs.Common.{◌≡◌}
 use Rattle.volume.specs.Slots.{members_of}

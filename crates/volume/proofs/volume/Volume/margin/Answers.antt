@@ -1,4 +1,4 @@
-use Rattle.std.proofs.Common.{◌≡◌, ℕ, ◌-◌, ◌||◌, ltb, ap, ◌∙◌}
+use Rattle.std.proofs.Common.{ℕ, ◌-◌, ◌||◌, ltb, ap, ◌∙◌}
 use Rattle.contents.specs.Columns.{count}
 use Rattle.volume.specs.declared.size.Size.{Size}
 use Rattle.volume.specs.Slots.{members_of, frontier_of}

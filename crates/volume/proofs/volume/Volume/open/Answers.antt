@@ -1,20 +1,17 @@
-use Rattle.std.proofs.Common.{◌≡◌, ℕ, ◌+◌, ◌-◌, ◌<◌, ◌≤◌, true, false, List, is_ok, Ok, Err, Result, sym, refl, ap, ◌∙◌, subst, arith}
+use Rattle.std.proofs.Common.{Err, sym, refl, ap, ◌∙◌, subst, arith}
 use Rattle.std.proofs.lemmas.Result.{err_from_is_err_and}
-use Rattle.std.proofs.lemmas.Bool.{true≢false, false≢true}
 use Rattle.contents.specs.declared.Refusal.{Refusal}
-use Rattle.contents.specs.declared.SlotEvent.TheVariants.{Replaced, Opened, Stepped, Closed}
-use Rattle.contents.specs.Columns.{Members}
-use Rattle.contents.specs.Refusals.{Told, told, plain, outcome, answering}
+use Rattle.contents.specs.declared.SlotEvent.TheVariants.{Opened}
+use Rattle.contents.specs.Refusals.{plain, outcome}
 use Rattle.contents.specs.Records.{Records}
-use Rattle.contents.specs.Rebuilds.{FitsOver, ReplaceChanges, StepChanges}
-use Rattle.contents.proofs.Rebuilding.{opens, closes, replaces, rebuilds, rebuild_losses}
+use Rattle.contents.specs.Rebuilds.{FitsOver}
+use Rattle.contents.proofs.Rebuilding.{opens}
 use Rattle.volume.specs.declared.size.Size.{Size}
 use Rattle.volume.specs.Sizes.{Fitting, size_of, shape_at}
 use Rattle.volume.specs.Slots.{members_of, records_of}
 use Rattle.volume.proofs.Answering.{valid_at}
-use Rattle.volume.proofs.Rebuilding.{EventDone, event_done, answering_ok, answering_err, renewed_moved}
+use Rattle.volume.proofs.Rebuilding.{EventDone, event_done, answering_ok, answering_err}
 use Rattle.volume.specs.Volumes.{ordered}
-use Rattle.volume.specs.declared.volume.rebuilds.Order.{Order}
 use Rattle.volume.proofs.volume.Volume.open.Goals as goal
 
 pub returns-in_err-change : goal.returns-in_err-change

@@ -1,13 +1,11 @@
-use Rattle.std.proofs.Common.{◌≡◌, ℕ, ◌+◌, ◌-◌, ◌<◌, ◌≤◌, true, false, List, is_ok, Ok, Err, Result, sym, refl, ap, ◌∙◌, subst, arith}
+use Rattle.std.proofs.Common.{ℕ, is_ok, Err, Result, sym, refl, ap, ◌∙◌, subst, arith}
 use Rattle.std.proofs.lemmas.Result.{err_from_is_err_and}
 use Rattle.std.proofs.lemmas.Bool.{true≢false, false≢true, cond-false}
 use Rattle.contents.specs.declared.Refusal.{Refusal}
-use Rattle.contents.specs.declared.SlotEvent.TheVariants.{Replaced, Opened, Stepped, Closed}
-use Rattle.contents.specs.Columns.{Members}
-use Rattle.contents.specs.Refusals.{Told, told, plain, outcome, answering}
-use Rattle.contents.specs.Records.{Records}
-use Rattle.contents.specs.Rebuilds.{FitsOver, ReplaceChanges, StepChanges}
-use Rattle.contents.proofs.Rebuilding.{opens, closes, replaces, rebuilds, rebuild_losses}
+use Rattle.contents.specs.declared.SlotEvent.TheVariants.{Replaced}
+use Rattle.contents.specs.Refusals.{Told, plain, outcome, answering}
+use Rattle.contents.specs.Rebuilds.{ReplaceChanges}
+use Rattle.contents.proofs.Rebuilding.{replaces}
 use Rattle.volume.specs.declared.size.Size.{Size}
 use Rattle.volume.specs.Sizes.{Fitting, size_of, shape_at}
 use Rattle.volume.specs.Slots.{members_of, records_of}

@@ -1,4 +1,4 @@
-use Rattle.std.proofs.Common.{◌≡◌, Err, sym, refl, ap, ◌∙◌, subst}
+use Rattle.std.proofs.Common.{Err, refl, subst}
 use Rattle.contents.specs.Refusals.{plain, outcome}
 use Rattle.contents.proofs.Keeping.{scrubs}
 use Rattle.contents.proofs.Losing.{losses}

@@ -1,12 +1,7 @@
-use Rattle.std.proofs.Common.{◌≡◌, ℕ, ◌+◌, ◌-◌, ◌<◌, ◌≤◌, true, false, cond, ◌&&◌, ltb, List, is_ok, Ok, Err, Result, sym, refl, ap, ◌∙◌, subst, arith}
+use Rattle.std.proofs.Common.{◌≡◌, ℕ, ◌<◌, true, false, cond, ◌&&◌, ltb, Err, sym, refl, ap, ◌∙◌, subst, arith}
 use Rattle.std.proofs.lemmas.Result.{err_from_is_err_and}
-use Rattle.std.proofs.lemmas.Bool.{true≢false, false≢true}
 use Rattle.contents.specs.declared.Refusal.{Refusal}
-use Rattle.contents.specs.declared.SlotEvent.TheVariants.{Replaced, Opened, Stepped, Closed}
-use Rattle.contents.specs.Columns.{Members}
-use Rattle.contents.specs.Refusals.{Told, told, plain, outcome, answering}
-use Rattle.contents.specs.Records.{Records}
-use Rattle.contents.specs.Rebuilds.{open_here}
+use Rattle.contents.specs.Refusals.{told, outcome}
 use Rattle.contents.specs.Shapes.{Roomy, lossy, loss_at, recovered_at}
 use Rattle.contents.specs.Changes.{Moved}
 use Rattle.contents.specs.Refusals.{with_loss}

@@ -1,9 +1,9 @@
-use Rattle.std.proofs.Common.{◌≡◌, ℕ, refl, ap, ◌∙◌, subst}
+use Rattle.std.proofs.Common.{refl, ap, ◌∙◌, subst}
 use Rattle.member.specs.Changes.{Ticked}
 use Rattle.contents.specs.Changes.{Steps, Moved}
 use Rattle.contents.proofs.Keeping.{ticks}
 use Rattle.volume.specs.declared.size.Size.{Size}
-use Rattle.volume.specs.Sizes.{Fitting, size_of}
+use Rattle.volume.specs.Sizes.{Fitting}
 use Rattle.volume.specs.Slots.{members_of, frontier_of}
 use Rattle.volume.specs.Turns.{in_turn}
 use Rattle.volume.proofs.Answering.{valid_at}

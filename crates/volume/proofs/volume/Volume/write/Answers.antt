@@ -1,8 +1,5 @@
-use Rattle.std.proofs.Common.{◌≡◌, ℕ, ◌+◌, ◌-◌, ◌*◌, ◌<◌, ◌≤◌, List, length, Err, sym, refl, ap, ◌∙◌, subst, arith}
-use Rattle.code.specs.Blocks.{block_size}
-use Rattle.contents.specs.Shapes.{Shape, Valid}
+use Rattle.std.proofs.Common.{ℕ, ◌-◌, ◌*◌, ◌<◌, ◌≤◌, Err, refl, subst, arith}
 use Rattle.contents.specs.Refusals.{plain, outcome}
-use Rattle.contents.specs.Theorems.{Writing}
 use Rattle.contents.proofs.Writing.{writes}
 use Rattle.contents.proofs.Fitting.{stripe_below, column_below}
 use Rattle.contents.proofs.Losing.{losses}

@@ -1,11 +1,11 @@
-use Rattle.std.proofs.Common.{◌≡◌, ℕ, ◌+◌, ◌-◌, ◌<◌, ◌≤◌, List, is_some, Some, None, Err, sym, refl, ap, ◌∙◌, subst, arith}
+use Rattle.std.proofs.Common.{◌≡◌, ◌+◌, ◌-◌, ◌<◌, ◌≤◌, is_some, Err, sym, ap, ◌∙◌, arith}
 use Rattle.parity.specs.Stripe.{missing}
-use Rattle.parity.specs.Ways.{or_else, recovered}
+use Rattle.parity.specs.Ways.{recovered}
 use Rattle.bank.specs.Slots.{Slots}
 use Rattle.contents.specs.Columns.{loss_of}
-use Rattle.contents.specs.Refusals.{Told, with_loss}
+use Rattle.contents.specs.Refusals.{with_loss}
 use Rattle.contents.specs.declared.Loss.{Loss}
-use Rattle.volume.specs.Slots.{columns_in, members_of, frontier_of, Surveyed}
+use Rattle.volume.specs.Slots.{columns_in, members_of, frontier_of}
 use Rattle.volume.proofs.Gathering.{loaded, unloaded}
 use Rattle.volume.proofs.Answering.{read_here, read_two, read_gone, or_here, or_none}
 use Rattle.volume.proofs.volume.reads.read_column.Goals as goal

@@ -1,4 +1,4 @@
-use Rattle.std.proofs.Common.{◌≡◌, ◌-◌, is_some, sym, refl, ap, ◌∙◌, subst}
+use Rattle.std.proofs.Common.{◌-◌, is_some, sym, ap, ◌∙◌, subst}
 use Rattle.parity.specs.Ways.{recovered}
 use Rattle.bank.specs.Slots.{Slots}
 use Rattle.volume.specs.Slots.{columns_in, Surveyed}

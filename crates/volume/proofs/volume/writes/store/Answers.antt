@@ -1,4 +1,4 @@
-use Rattle.std.proofs.Common.{◌≡◌, ℕ, sym, refl, ap, ◌∙◌, subst}
+use Rattle.std.proofs.Common.{ℕ, sym, subst}
 use Rattle.contents.specs.Changes.{Moved, Put, due}
 use Rattle.volume.specs.Slots.{members_of, frontier_of}
 use Rattle.volume.proofs.Walking.{written_moved}

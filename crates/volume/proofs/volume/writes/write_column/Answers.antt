@@ -1,12 +1,9 @@
-use Rattle.std.proofs.Common.{◌≡◌, ℕ, ◌+◌, ◌-◌, ◌<◌, ◌≤◌, true, false, List, Err, sym, refl, ap, ◌∙◌, subst, arith}
+use Rattle.std.proofs.Common.{◌≡◌, ◌+◌, ◌-◌, ◌<◌, ◌≤◌, Err, sym, refl, ap, ◌∙◌, subst, arith}
 use Rattle.std.proofs.lemmas.Bool.{true≢false, false≢true, cond-true, cond-false, lt-ltb, le-ltb}
 use Rattle.parity.specs.Stripe.{missing}
 use Rattle.bank.specs.Slots.{Slots}
-use Rattle.contents.specs.Columns.{loss_of}
 use Rattle.contents.specs.declared.Loss.{Loss}
 use Rattle.contents.specs.Refusals.{with_loss}
-use Rattle.contents.specs.Shapes.{lossy}
-use Rattle.contents.specs.Changes.{Spread, new_P, new_Q}
 use Rattle.contents.proofs.Storing.{spread_of}
 use Rattle.volume.specs.Sizes.{shape_at}
 use Rattle.volume.specs.Slots.{columns_in, members_of, frontier_of}

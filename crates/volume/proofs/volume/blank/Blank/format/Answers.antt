@@ -1,4 +1,4 @@
-use Rattle.std.proofs.Common.{◌≡◌, ℕ, ◌≤◌, replicate, sym, refl, ap, ◌∙◌, subst, arith}
+use Rattle.std.proofs.Common.{◌≡◌, replicate, sym, refl, ap, ◌∙◌, subst, arith}
 use Rattle.code.specs.Blocks.{zeros}
 use Rattle.member.specs.Changes.{Written}
 use Rattle.bank.specs.Slots.{told}
