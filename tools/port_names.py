@@ -1,5 +1,5 @@
 #!/usr/bin/env python3
-"""Respells this repository's own definitions, lemmas, fields and facts as today's Rattle spells names.
+"""Respells this repository's own definitions, lemmas, fields, facts and aliases as today's Rattle spells names.
 
 usage: python3 tools/port_names.py [--look]     at the top of a repository that port.py has turned, once
 
@@ -15,15 +15,17 @@ import sys
 
 # Where the plain respelling falls together with another name, or is no good one.
 OTHERWISE = {
+    "Block-of": "block_of",  # it names a constructor
 }
 
 # What begins a name that Rattle makes.
 MADE = re.compile(
-    r"^(returns|invariant|loop|overflow|nonzero|slice|bounds|slice-bounds|offset|decreases|ghost|invariant_of|prove)-"
+    r"^(returns|invariant|invariant_of|loop|overflow\w*|nonzero\w*|slice|slice_bounds|bounds|offset|offset_bounds|decreases|ghost|prove)-"
     r"|-requires(-|$)|^(row|new|none|the)-(requires|row)$"
 )
 WORD = re.compile(r"[^\s(){}\[\],;:.\"«»|↦]+")
 SIGNATURE = re.compile(r"^(?:(?:abbrev|unfoldable|pub|mutual)\s+)*(?:(record|data|ruleset)\s+)?(\S+)(?=\s|$)")
+ALIAS = re.compile(r" as ([A-Za-z]+(?:-[A-Za-z]+)+)")
 FIELD = re.compile(r"^\s+(?:(?:abbrev|unfoldable|pub)\s+)*([^\s(){}]+) :(?=\s|$)")
 
 
@@ -82,6 +84,12 @@ def main():
                 continue
             names.add(name)
             homes.setdefault(name, set()).add(path)
+    for path in files + sorted(glob.glob("crates/*/src/**/*.rt", recursive=True)):
+        for line in open(path, encoding="utf-8"):
+            if line.startswith(("use ", "ghost use ")):
+                for name in ALIAS.findall(line):
+                    names.add(name)
+                    homes.setdefault(name, set()).add(path)
     table = {n: respelled(n) for n in names if respelled(n) != n}
     kept = names - set(table)
     for old, new in sorted(table.items()):

@@ -4,7 +4,7 @@ use Rattle.std.proofs.Common.{sym, ap, subst, ◌∙◌, ⊎_elim, arith}
 use Rattle.std.proofs.lemmas.Bool.{cases_Bool, ltb-true, ltb-false, lt-ltb, le-ltb}
 use Rattle.member.specs.Faults.{Refusal}
 use Rattle.member.specs.Meaning.{Meaning, Sound, handed}
-use Rattle.member.specs.Changes.{Written, Ticked, Renewed, Lawful as Member-lawful}
+use Rattle.member.specs.Changes.{Written, Ticked, Renewed, Lawful as MemberLawful}
 use Rattle.bank.specs.Slots.{Slots, no_slot, on_slot, slot_handed}
 use Rattle.bank.specs.Changes.{Changed, Lawful}
 use Rattle.bank.specs.Chains.{before, linked_slots, Linked, linked, LinkedSound, linked_meaning, linked_change}
@@ -83,7 +83,7 @@ module _ {S T : Type 0} {P : S → Type 0} {Q : T → Type 0} (m : S → Meaning
 
 module _ {S T : Type 0} {P : S → Type 0} {m : S → Meaning} {mseen : S → ℕ → ℕ → S} {mwrote : S → ℕ → List ℕ → S} {mticked mrenewed : S → S}
     {Q : T → Type 0} {ms : T → Slots} {bseen : T → ℕ → ℕ → ℕ → T} {bwrote : T → ℕ → ℕ → List ℕ → T} {bticked brenewed : T → ℕ → T} where
-  pub linked_lawful : Member-lawful P m mseen mwrote mticked mrenewed → Lawful Q ms bseen bwrote bticked brenewed
+  pub linked_lawful : MemberLawful P m mseen mwrote mticked mrenewed → Lawful Q ms bseen bwrote bticked brenewed
       → Lawful (λ s. LinkedSound P Q s) (λ s. linked_meaning m ms s) (λ s i b n. linked_change (λ x. mseen x b n) (λ x k. bseen x k b n) s i)
       (λ s i b v. linked_change (λ x. mwrote x b v) (λ x k. bwrote x k b v) s i)
       (λ s i. linked_change mticked bticked s i) (λ s i. linked_change mrenewed brenewed s i)

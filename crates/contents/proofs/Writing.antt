@@ -7,7 +7,7 @@ use Rattle.parity.specs.Stripe.{Content, Holds, Fits, column, put}
 use Rattle.parity.specs.Theorems.{Kept}
 use Rattle.parity.proofs.Columns.{kind, is_data, is_P, is_Q, column_data}
 use Rattle.parity.proofs.Sums.{put_same, put_other, put_block}
-use Rattle.parity.proofs.Changes.{deltas, writes as stripe-writes}
+use Rattle.parity.proofs.Changes.{deltas, writes as stripe_writes}
 use Rattle.member.specs.Meaning.{Meaning}
 use Rattle.contents.specs.declared.Loss.{Loss}
 use Rattle.contents.specs.Columns.{Members, Frontiers, held}
@@ -142,7 +142,7 @@ module _ (V : Shape) (L : Valid V) (M : Members) (F : Frontiers) (room : Roomy V
         ]
 
     pub own_fits : Fits V.code k (put old c v) (columns_at V N F s)
-    own_fits = stripe-writes V.code k (columns_at V M F s) (columns_at V N F s) old c v (f.fits s ls) kept
+    own_fits = stripe_writes V.code k (columns_at V M F s) (columns_at V N F s) old c v (f.fits s ls) kept
 
 -- ---- a taken write
 module _ (V : Shape) (L : Valid V) (M : Members) (F : Frontiers) (room : Roomy V M) (a : ℕ) (la : a < blocks V) (v : List ℕ) (hv : Block v) (N : Members)

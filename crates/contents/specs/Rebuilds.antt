@@ -8,7 +8,9 @@ use Rattle.member.specs.Changes.{Written, Renewed}
 use Rattle.contents.specs.declared.SlotEvent.{SlotEvent}
 use Rattle.contents.specs.declared.SlotEvent.TheVariants.{Replaced, Opened, Stepped, Closed}
 use Rattle.contents.specs.Columns.{Members}
-use Rattle.contents.specs.Refusals.{Told, plain, with_fault, answering}
+use Rattle.contents.specs.declared.Refusal.{Refusal}
+use Rattle.contents.specs.declared.Refusal.TheVariants.{NoSuch, Length, Lost, Torn, Busy, Whole, NotOpen, Failed}
+use Rattle.contents.specs.Refusals.{Told, plain, answering}
 use Rattle.contents.specs.Records.{Records, frontiers, is_open, with_record, slot_after, slot_answer}
 use Rattle.contents.specs.Shapes.{Shape, Valid, Roomy, lossy, recovered_at, FitsVolume}
 use Rattle.contents.specs.Answers.{unless_lost}
@@ -48,10 +50,10 @@ close_outcome V R i = event_outcome V R i Closed (plain 8)
 abbrev pub open_here : Shape → Records → ℕ → Bool
 open_here V R i = nat_lt i V.slots && is_open (R i).state
 
--- by the fault of the write to the stripe f, if there is one: 9 with the fault whole, else the new frontier
+-- by the fault of the write to the stripe f, if there is one: 9, else the new frontier
 abbrev pub rebuilt : Option member.Refusal → ℕ → Result ℕ Told
 rebuilt None f = Ok (f + 1)
-rebuilt (Some x) f = Err (with_fault 9 x)
+rebuilt (Some x) f = Err (plain 9)
 
 -- 8 if the slot is not open in this volume, 7 if no stripe is left, 4 if three or more columns of the frontier's stripe are missing
 abbrev pub step_outcome : Shape → Members → Records → ℕ → Result ℕ Told
@@ -65,6 +67,21 @@ step_outcome V M R i =
 -- it meets none of the checks 8, 7 and 4
 abbrev pub step_takes : Shape → Members → Records → ℕ → Bool
 step_takes V M R i = open_here V R i && (nat_lt (R i).frontier V.stripes && not (lossy V M (frontiers R) (R i).frontier))
+
+-- a refusal 9 carries the member's fault whole, and nothing else carries one
+abbrev pub fault_of : {U : Type 0} → Result U Refusal → Option member.Refusal
+fault_of (Ok u) = None
+fault_of (Err NoSuch) = None
+fault_of (Err Length) = None
+fault_of (Err (Lost l)) = None
+fault_of (Err (Torn l)) = None
+fault_of (Err Busy) = None
+fault_of (Err Whole) = None
+fault_of (Err NotOpen) = None
+fault_of (Err (Failed f)) = Some (member.numbers f)
+
+abbrev pub step_fault : Shape → Members → Records → ℕ → Option member.Refusal
+step_fault V M R i = cond (step_takes V M R i) (write_refusal (M i) (R i).frontier block_size) None
 
 -- the recovered column of the frontier's stripe is written to the slot's member; the frontier goes one further if the member takes it
 pub record StepChanges (V : Shape) (M : Members) (R : Records) (i : ℕ) (N : Members) (Q : Records) : Type 0 where

@@ -1,32 +1,26 @@
 -- Refusals in numbers.
-use Rattle.std.specs.Prelude.{ℕ, Bool, true, false, cond, Some, None, Ok, Err, Option, Result, ◌==◌}
+use Rattle.std.specs.Prelude.{ℕ, Bool, true, false, cond, Ok, Err, Result, ◌==◌}
 use Rattle.contents.specs.declared.Loss.{Loss}
 use Rattle.contents.specs.declared.Fitness.{Fitness}
 use Rattle.contents.specs.declared.Fitness.TheVariants.{Fit, Unfit}
 use Rattle.contents.specs.declared.Refusal.{Refusal}
 use Rattle.contents.specs.declared.Refusal.TheVariants.{NoSuch, Length, Lost, Torn, Busy, Whole, NotOpen, Failed}
-use Rattle.member.specs.Faults as member
 
--- a refusal: its number, and the values that it carries, 0 or none where it carries none
+-- a refusal: its number, and the values that it carries, 0 where it carries none
 pub record Told : Type 0 where
   pub number : ℕ
   pub stripe : ℕ
   pub gone : ℕ
   pub behind : ℕ
   pub unreadable : ℕ
-  pub fault : Option member.Refusal
 
 -- a refusal that carries nothing
 abbrev pub plain : ℕ → Told
-plain n = record { number = n; stripe = 0; gone = 0; behind = 0; unreadable = 0; fault = None }
+plain n = record { number = n; stripe = 0; gone = 0; behind = 0; unreadable = 0 }
 
 -- a refusal that carries a stripe and its three masks
 abbrev pub with_loss : ℕ → Loss → Told
-with_loss n l = record { number = n; stripe = l.stripe; gone = l.gone; behind = l.behind; unreadable = l.unreadable; fault = None }
-
--- a refusal that carries a member's fault, whole
-abbrev pub with_fault : ℕ → member.Refusal → Told
-with_fault n f = record { number = n; stripe = 0; gone = 0; behind = 0; unreadable = 0; fault = Some f }
+with_loss n l = record { number = n; stripe = l.stripe; gone = l.gone; behind = l.behind; unreadable = l.unreadable }
 
 -- the number and the values of each refusal
 abbrev pub told : Refusal → Told
@@ -37,7 +31,7 @@ told (Torn l) = with_loss 5 l
 told Busy = plain 6
 told Whole = plain 7
 told NotOpen = plain 8
-told (Failed f) = with_fault 9 (member.numbers f)
+told (Failed f) = plain 9
 
 -- what a call answered, its refusal in numbers
 abbrev pub outcome : {U : Type 0} → Result U Refusal → Result U Told

@@ -1,7 +1,7 @@
 // Row-diagonal parity: the diagonals run over the data columns and P.
 ghost use Rattle.std.specs.Prelude.{◌≡◌, ℕ};
 ghost use Rattle.std.proofs.Common.{subst};
-ghost use Rattle.prime.specs.Diagonals.{rdp as row-diagonal, rdp};
+ghost use Rattle.prime.specs.Diagonals.{rdp as row_diagonal, rdp};
 ghost use Rattle.code.specs.Codes.{Lawful};
 ghost use Rattle.prime.proofs.Laws.{rdp_lawful};
 ghost use Rattle.diagonal.specs.Facts.{sizes_of};
@@ -28,7 +28,7 @@ impl Rdp {
 }
 
 impl Code for Rdp {
-    ghost coding = { λ c. row-diagonal c.grid.prime c.grid.width };
+    ghost coding = { λ c. row_diagonal c.grid.prime c.grid.width };
 
     ghost lawful = { λ c.
         let g = c.grid in

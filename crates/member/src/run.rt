@@ -1,6 +1,6 @@
 // Blocks that lie one after the other in a run of bytes. Of a run its whole blocks count, at most as many as the caller says.
 ghost use Rattle.std.specs.Prelude.{◌≡◌, ℕ, ◌<◌, length, slice_index};
-ghost use Rattle.member.specs.Faults.{numbers, refusal, raised as raised-from};
+ghost use Rattle.member.specs.Faults.{numbers, refusal, raised as raised_from};
 ghost use Rattle.member.specs.Meaning.{look_refusal, read_refusal, write_refusal, handed};
 ghost use Rattle.member.specs.Runs.{bottom_origin, whole_blocks, run_meaning, run_wrote};
 
@@ -9,7 +9,7 @@ use code::BLOCK;
 
 // A fault that a kind at the bottom raises.
 fn raised(cause: Cause, block: usize) -> Fault
-    ensures value { numbers result ≡ raised-from cause (bottom_origin block) }
+    ensures value { numbers result ≡ raised_from cause (bottom_origin block) }
 {
     Fault {
         cause,

@@ -2,7 +2,7 @@
 ghost use Rattle.std.specs.Prelude.{◌≡◌, false, [], ◌∷◌};
 ghost use Rattle.contents.specs.Refusals.{outcome};
 ghost use Rattle.history.specs.Calls.{answered};
-ghost use Rattle.history.specs.Calls.Answer.{done, bytes as Block-of, number as number_of_lem, counts as counts_of};
+ghost use Rattle.history.specs.Calls.Answer.{done, bytes as block_of, number as number_of_lem, counts as counts_of};
 ghost use Rattle.runs.specs.Told.{answer_of, is_none};
 
 use crate::Answer;
@@ -33,7 +33,7 @@ pub fn number(answer: Result<usize, Refusal>) -> Answer
 
 // Of a read, with what its buffer holds.
 pub fn block(answer: Result<(), Refusal>, held: [u8; BLOCK]) -> Answer
-    ensures value { answer_of result ≡ answered (λ _. Block-of held) (outcome answer) ∷ [] }
+    ensures value { answer_of result ≡ answered (λ _. block_of held) (outcome answer) ∷ [] }
     ensures some { is_none result ≡ false }
 {
     match answer {

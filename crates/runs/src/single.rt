@@ -3,9 +3,10 @@ ghost use Rattle.std.specs.Prelude.{◌≡◌, length, is_ok, IfOk, if◌then◌
 ghost use Rattle.contents.specs.Refusals.{outcome};
 ghost use Rattle.history.specs.Calls.{answered, Makes};
 ghost use Rattle.history.specs.Calls.Call.{tick as ticks, read as reads, write as writes, scrub as scrubs, replace as replaces, open_slot as opens, step as steps, close as closes, margin as asks};
-ghost use Rattle.history.specs.Calls.Answer.{done, bytes as Block-of, number, counts, order as order-for};
+ghost use Rattle.history.specs.Calls.Answer.{done, bytes as block_of, number, counts, order as order_for};
 ghost use Rattle.contents.specs.Shapes.{Roomy};
 ghost use Rattle.contents.specs.Answers.{read_leaves};
+ghost use Rattle.contents.specs.Rebuilds.{fault_of, step_fault};
 ghost use Rattle.volume.specs.Turns.{in_turn};
 ghost use Rattle.volume.specs.Volumes.{means, shape, members, frontiers, ordered};
 ghost use Rattle.runs.specs.Told.{state, event, Goes_on};
@@ -35,8 +36,8 @@ pub fn read<C: Code, L: Layout, B: Bank>(
 ) -> Result<(), Refusal>
     ensures after { buffer.new ≡ read_leaves (shape (means C.Code.coding L.Layout.slot L.Layout.column B.Bank.state B.Bank.meaning) volume.old) (members (means C.Code.coding L.Layout.slot L.Layout.column B.Bank.state B.Bank.meaning) volume.old) (frontiers (means C.Code.coding L.Layout.slot L.Layout.column B.Bank.state B.Bank.meaning) volume.old) block buffer.old }
     ensures same { (shape (means C.Code.coding L.Layout.slot L.Layout.column B.Bank.state B.Bank.meaning) volume.new) ≡ (shape (means C.Code.coding L.Layout.slot L.Layout.column B.Bank.state B.Bank.meaning) volume.old) }
-    ensures makes { Makes (shape (means C.Code.coding L.Layout.slot L.Layout.column B.Bank.state B.Bank.meaning) volume.old) (state (means C.Code.coding L.Layout.slot L.Layout.column B.Bank.state B.Bank.meaning) volume.old) (reads block (length buffer.old)) (answered (λ _. Block-of buffer.new) (outcome result)) (state (means C.Code.coding L.Layout.slot L.Layout.column B.Bank.state B.Bank.meaning) volume.new) }
-    ensures goes { Goes_on (shape (means C.Code.coding L.Layout.slot L.Layout.column B.Bank.state B.Bank.meaning) volume.old) (state (means C.Code.coding L.Layout.slot L.Layout.column B.Bank.state B.Bank.meaning) volume.old) (event (reads block (length buffer.old)) (answered (λ _. Block-of buffer.new) (outcome result))) (state (means C.Code.coding L.Layout.slot L.Layout.column B.Bank.state B.Bank.meaning) volume.new) }
+    ensures makes { Makes (shape (means C.Code.coding L.Layout.slot L.Layout.column B.Bank.state B.Bank.meaning) volume.old) (state (means C.Code.coding L.Layout.slot L.Layout.column B.Bank.state B.Bank.meaning) volume.old) (reads block (length buffer.old)) (answered (λ _. block_of buffer.new) (outcome result)) (state (means C.Code.coding L.Layout.slot L.Layout.column B.Bank.state B.Bank.meaning) volume.new) }
+    ensures goes { Goes_on (shape (means C.Code.coding L.Layout.slot L.Layout.column B.Bank.state B.Bank.meaning) volume.old) (state (means C.Code.coding L.Layout.slot L.Layout.column B.Bank.state B.Bank.meaning) volume.old) (event (reads block (length buffer.old)) (answered (λ _. block_of buffer.new) (outcome result))) (state (means C.Code.coding L.Layout.slot L.Layout.column B.Bank.state B.Bank.meaning) volume.new) }
 {
     volume.read(block, buffer)
 }
@@ -86,8 +87,8 @@ pub fn open<C: Code, L: Layout, B: Bank>(
 ) -> Result<Order, Refusal>
     ensures order { IfOk result (λ o. o.slot ≡ slot) }
     ensures same { (shape (means C.Code.coding L.Layout.slot L.Layout.column B.Bank.state B.Bank.meaning) volume.new) ≡ (shape (means C.Code.coding L.Layout.slot L.Layout.column B.Bank.state B.Bank.meaning) volume.old) }
-    ensures makes { Makes (shape (means C.Code.coding L.Layout.slot L.Layout.column B.Bank.state B.Bank.meaning) volume.old) (state (means C.Code.coding L.Layout.slot L.Layout.column B.Bank.state B.Bank.meaning) volume.old) (opens slot) (answered order-for (ordered result)) (state (means C.Code.coding L.Layout.slot L.Layout.column B.Bank.state B.Bank.meaning) volume.new) }
-    ensures goes { Goes_on (shape (means C.Code.coding L.Layout.slot L.Layout.column B.Bank.state B.Bank.meaning) volume.old) (state (means C.Code.coding L.Layout.slot L.Layout.column B.Bank.state B.Bank.meaning) volume.old) (event (opens slot) (answered order-for (ordered result))) (state (means C.Code.coding L.Layout.slot L.Layout.column B.Bank.state B.Bank.meaning) volume.new) }
+    ensures makes { Makes (shape (means C.Code.coding L.Layout.slot L.Layout.column B.Bank.state B.Bank.meaning) volume.old) (state (means C.Code.coding L.Layout.slot L.Layout.column B.Bank.state B.Bank.meaning) volume.old) (opens slot) (answered order_for (ordered result)) (state (means C.Code.coding L.Layout.slot L.Layout.column B.Bank.state B.Bank.meaning) volume.new) }
+    ensures goes { Goes_on (shape (means C.Code.coding L.Layout.slot L.Layout.column B.Bank.state B.Bank.meaning) volume.old) (state (means C.Code.coding L.Layout.slot L.Layout.column B.Bank.state B.Bank.meaning) volume.old) (event (opens slot) (answered order_for (ordered result))) (state (means C.Code.coding L.Layout.slot L.Layout.column B.Bank.state B.Bank.meaning) volume.new) }
 {
     volume.open(slot)
 }
@@ -99,6 +100,7 @@ pub fn step<C: Code, L: Layout, B: Bank>(
 ) -> Result<usize, Refusal>
     ensures same { (shape (means C.Code.coding L.Layout.slot L.Layout.column B.Bank.state B.Bank.meaning) volume.new) ≡ (shape (means C.Code.coding L.Layout.slot L.Layout.column B.Bank.state B.Bank.meaning) volume.old) }
     ensures makes { Roomy (shape (means C.Code.coding L.Layout.slot L.Layout.column B.Bank.state B.Bank.meaning) volume.old) (state (means C.Code.coding L.Layout.slot L.Layout.column B.Bank.state B.Bank.meaning) volume.old).members → Makes (shape (means C.Code.coding L.Layout.slot L.Layout.column B.Bank.state B.Bank.meaning) volume.old) (state (means C.Code.coding L.Layout.slot L.Layout.column B.Bank.state B.Bank.meaning) volume.old) (steps order.now.slot) (answered number (outcome result)) (state (means C.Code.coding L.Layout.slot L.Layout.column B.Bank.state B.Bank.meaning) volume.new) }
+    ensures fault { Roomy (shape (means C.Code.coding L.Layout.slot L.Layout.column B.Bank.state B.Bank.meaning) volume.old) (state (means C.Code.coding L.Layout.slot L.Layout.column B.Bank.state B.Bank.meaning) volume.old).members → fault_of result ≡ step_fault (shape (means C.Code.coding L.Layout.slot L.Layout.column B.Bank.state B.Bank.meaning) volume.old) (state (means C.Code.coding L.Layout.slot L.Layout.column B.Bank.state B.Bank.meaning) volume.old).members (state (means C.Code.coding L.Layout.slot L.Layout.column B.Bank.state B.Bank.meaning) volume.old).records order.now.slot }
     ensures goes { Goes_on (shape (means C.Code.coding L.Layout.slot L.Layout.column B.Bank.state B.Bank.meaning) volume.old) (state (means C.Code.coding L.Layout.slot L.Layout.column B.Bank.state B.Bank.meaning) volume.old) (event (steps order.now.slot) (answered number (outcome result))) (state (means C.Code.coding L.Layout.slot L.Layout.column B.Bank.state B.Bank.meaning) volume.new) }
 {
     volume.step(order)

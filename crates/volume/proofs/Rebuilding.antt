@@ -14,11 +14,12 @@ use Rattle.contents.specs.declared.SlotEvent.{SlotEvent}
 use Rattle.contents.specs.declared.SlotEvent.TheVariants.{Stepped}
 use Rattle.contents.specs.declared.SlotRecord.{SlotRecord}
 use Rattle.contents.specs.Columns.{Members, Frontiers, held}
-use Rattle.contents.specs.Refusals.{Told, plain, with_loss, with_fault, answering}
+use Rattle.contents.specs.declared.Refusal.{Refusal as CallRefusal}
+use Rattle.contents.specs.Refusals.{Told, plain, with_loss, outcome, answering}
 use Rattle.contents.specs.Records.{Records, frontiers, is_open, idle_at, with_record, slot_after, slot_answer, answer_by}
 use Rattle.contents.specs.Shapes.{Shape, lossy, loss_at, recovered_at}
 use Rattle.contents.specs.Changes.{Moved}
-use Rattle.contents.specs.Rebuilds.{event_outcome, event_records, open_here, rebuilt, step_outcome, step_takes, StepChanges}
+use Rattle.contents.specs.Rebuilds.{event_outcome, event_records, open_here, rebuilt, step_outcome, step_takes, fault_of, step_fault, StepChanges}
 use Rattle.contents.proofs.Statuses.{shown, held_is}
 use Rattle.volume.specs.Slots.{members_of, records_of}
 use Rattle.volume.proofs.Looking.{members_here, members_beyond, members_empty}
@@ -123,13 +124,21 @@ module _ (V : Shape) (M : Members) (R : Records) (i : ℕ) where
     outcome_is : step_outcome V M R i ≡ cond lost (Err (with_loss 4 (loss_at V M (frontiers R) (R i).frontier))) (rebuilt (write_refusal (M i) (R i).frontier block_size) (R i).frontier)
     outcome_is = cond-true _ _ _ eo ∙ cond-true _ _ _ (lt-ltb (R i).frontier V.stripes lf)
 
+    turned : (b : Bool) (o : Option Refusal) → cond b None o ≡ cond (not b) o None
+    turned true o = refl
+    turned false o = refl
+
+    -- a step carries the fault of its write
+    pub fault_is : cond lost None (write_refusal (M i) (R i).frontier block_size) ≡ step_fault V M R i
+    fault_is = turned lost (write_refusal (M i) (R i).frontier block_size) ∙ ap (λ (b : Bool). cond b (write_refusal (M i) (R i).frontier block_size) None) (sym takes_is)
+
     changed : (Q : Records) → Q ≡ cond (is_ok (step_outcome V M R i)) (event_records V R i Stepped) R → StepChanges V M R i N Q
     changed Q q = record { taken = λ t. moved (not-true _ (sym takes_is ∙ t)); refused = λ t. left (not-false _ (sym takes_is ∙ t)); records = q }
 
     err_by : (b : Bool) (t u : Told) (o : Option Refusal) (f : ℕ) → ◌≡◌ {A = Result Unit Told} (Err u) (cond b (Err t) (column_answer o f)) → ◌≡◌ {A = Result ℕ Told} (Err u) (cond b (Err t) (rebuilt o f))
     err_by true t u o f e = let d : u ≡ t = cc in ap Err d
     err_by false t u None f e = absurd (let z : ◌≡◌ {A = ℕ} 0 1 = cc in omega arith)
-    err_by false t u (Some x) f e = let d : u ≡ with_fault 9 x = cc in ap Err d
+    err_by false t u (Some x) f e = let d : u ≡ plain 9 = cc in ap Err d
 
     ok_by : (b : Bool) (t : Told) (o : Option Refusal) (f : ℕ) → ◌≡◌ {A = Result Unit Told} (Ok tt) (cond b (Err t) (column_answer o f)) → ◌≡◌ {A = Result ℕ Told} (Ok (f + 1)) (cond b (Err t) (rebuilt o f))
     ok_by true t o f e = absurd (let z : ◌≡◌ {A = ℕ} 0 1 = cc in omega arith)
@@ -151,6 +160,14 @@ module _ (V : Shape) (M : Members) (R : Records) (i : ℕ) where
 
     answer_is : slot_answer V.stripes (R i) Stepped ≡ Ok ((R i).frontier + 1)
     answer_is = ap (λ (x : SlotState). answer_by V.stripes x (R i).frontier Stepped) opened ∙ cond-true _ _ _ (lt-ltb (R i).frontier V.stripes lf)
+
+    ok_faultless : (r : Result ℕ CallRefusal) (n : ℕ) → outcome r ≡ Ok n → fault_of r ≡ None
+    ok_faultless (Ok u) n e = refl
+    ok_faultless (Err x) n e = absurd (let z : ◌≡◌ {A = ℕ} 0 1 = cc in omega arith)
+
+    -- what raises the frontier carries none
+    pub raised_faultless : (r : Result ℕ CallRefusal) → outcome r ≡ slot_answer V.stripes (R i) Stepped → fault_of r ≡ None
+    raised_faultless r e = ok_faultless r ((R i).frontier + 1) (e ∙ answer_is)
 
     -- the member took it
     pub step_made : Ok tt ≡ after → (Q : Records) (r : Result ℕ Told) → Q ≡ with_record R i (slot_after V.stripes (R i) Stepped) → r ≡ slot_answer V.stripes (R i) Stepped

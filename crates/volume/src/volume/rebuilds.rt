@@ -1,5 +1,5 @@
 // Replacement of a slot's member, and the rebuild of what it should hold, stripe by stripe, while the volume is in use.
-ghost use Rattle.std.specs.Prelude.{◌≡◌, ◌<◌, ◌≤◌, true, false, is_ok, if◌then◌else◌, Err};
+ghost use Rattle.std.specs.Prelude.{◌≡◌, ◌<◌, ◌≤◌, true, false, is_ok, if◌then◌else◌, None, Err};
 ghost use Rattle.code.specs.Blocks.{block_size};
 ghost use Rattle.member.specs.Meaning.{write_refusal};
 ghost use Rattle.member.specs.Changes.{Written};
@@ -10,7 +10,7 @@ ghost use Rattle.contents.specs.Records.{frontiers};
 ghost use Rattle.contents.specs.Shapes.{lossy, loss_at, recovered_at, Roomy};
 ghost use Rattle.contents.specs.Changes.{Moved};
 ghost use Rattle.contents.specs.Theorems.{CountsKept, TellsLoss};
-ghost use Rattle.contents.specs.Rebuilds.{event_records, replace_outcome, open_outcome, step_outcome, close_outcome, rebuilt, open_here, ReplaceChanges, StepChanges, FitsOver};
+ghost use Rattle.contents.specs.Rebuilds.{event_records, replace_outcome, open_outcome, step_outcome, step_fault, close_outcome, rebuilt, fault_of, open_here, ReplaceChanges, StepChanges, FitsOver};
 ghost use Rattle.volume.specs.Slots.{members_of, frontier_of};
 ghost use Rattle.volume.specs.Sizes.{Fitting, shape_at};
 ghost use Rattle.volume.specs.Volumes.{means, shape, members, records, PartsKept, ordered};
@@ -41,6 +41,7 @@ impl Order {
 // A bank's answer as the answer of its volume: the fault goes up whole.
 fn lifted(answer: Result<(), BankFault>) -> Result<(), Refusal>
     ensures answered { outcome result ≡ answering tt (rebuilt (bank_refusal answer) 0) }
+    ensures fault { fault_of result ≡ bank_refusal answer }
 {
     answer?;
     Ok(())
@@ -60,6 +61,7 @@ fn rebuild_column<C: Code, L: Layout, B: Bank>(
     requires within { (slot < size.slots) × (s < size.stripes) }
     requires behind { frontier_of table.now.rows slot ≤ s }
     ensures answered { Roomy (shape_at (C.Code.coding code.now) (L.Layout.slot layout.now) (L.Layout.column layout.now) size) (members_of (B.Bank.meaning (B.Bank.state bank.old))) → outcome result ≡ (if lossy (shape_at (C.Code.coding code.now) (L.Layout.slot layout.now) (L.Layout.column layout.now) size) (members_of (B.Bank.meaning (B.Bank.state bank.old))) (frontier_of table.now.rows) s then Err (with_loss 4 (loss_at (shape_at (C.Code.coding code.now) (L.Layout.slot layout.now) (L.Layout.column layout.now) size) (members_of (B.Bank.meaning (B.Bank.state bank.old))) (frontier_of table.now.rows) s)) else answering tt (rebuilt (write_refusal ((members_of (B.Bank.meaning (B.Bank.state bank.old))) slot) s block_size) s)) }
+    ensures fault { Roomy (shape_at (C.Code.coding code.now) (L.Layout.slot layout.now) (L.Layout.column layout.now) size) (members_of (B.Bank.meaning (B.Bank.state bank.old))) → fault_of result ≡ (if lossy (shape_at (C.Code.coding code.now) (L.Layout.slot layout.now) (L.Layout.column layout.now) size) (members_of (B.Bank.meaning (B.Bank.state bank.old))) (frontier_of table.now.rows) s then None else write_refusal ((members_of (B.Bank.meaning (B.Bank.state bank.old))) slot) s block_size) }
     ensures taken { lossy (shape_at (C.Code.coding code.now) (L.Layout.slot layout.now) (L.Layout.column layout.now) size) (members_of (B.Bank.meaning (B.Bank.state bank.old))) (frontier_of table.now.rows) s ≡ false → Moved (λ a b. Written a s (recovered_at (shape_at (C.Code.coding code.now) (L.Layout.slot layout.now) (L.Layout.column layout.now) size) (members_of (B.Bank.meaning (B.Bank.state bank.old))) (frontier_of table.now.rows) s (L.Layout.column layout.now size.slots s slot)) b) slot (members_of (B.Bank.meaning (B.Bank.state bank.old))) (members_of (B.Bank.meaning (B.Bank.state bank.new))) }
     ensures refused { lossy (shape_at (C.Code.coding code.now) (L.Layout.slot layout.now) (L.Layout.column layout.now) size) (members_of (B.Bank.meaning (B.Bank.state bank.old))) (frontier_of table.now.rows) s ≡ true → (members_of (B.Bank.meaning (B.Bank.state bank.new))) ≡ (members_of (B.Bank.meaning (B.Bank.state bank.old))) }
 {
@@ -120,6 +122,7 @@ impl<C: Code, L: Layout, B: Bank> Volume<C, L, B> {
     // Rebuilds one more stripe of the order's slot, and answers the new frontier. Where the member refuses it, the frontier stays.
     pub fn step(&mut self, order: &Order) -> Result<usize, Refusal>
         ensures answered { Roomy (shape (means C.Code.coding L.Layout.slot L.Layout.column B.Bank.state B.Bank.meaning) self.old) (members (means C.Code.coding L.Layout.slot L.Layout.column B.Bank.state B.Bank.meaning) self.old) → outcome result ≡ step_outcome (shape (means C.Code.coding L.Layout.slot L.Layout.column B.Bank.state B.Bank.meaning) self.old) (members (means C.Code.coding L.Layout.slot L.Layout.column B.Bank.state B.Bank.meaning) self.old) (records (means C.Code.coding L.Layout.slot L.Layout.column B.Bank.state B.Bank.meaning) self.old) order.now.slot }
+        ensures fault { Roomy (shape (means C.Code.coding L.Layout.slot L.Layout.column B.Bank.state B.Bank.meaning) self.old) (members (means C.Code.coding L.Layout.slot L.Layout.column B.Bank.state B.Bank.meaning) self.old) → fault_of result ≡ step_fault (shape (means C.Code.coding L.Layout.slot L.Layout.column B.Bank.state B.Bank.meaning) self.old) (members (means C.Code.coding L.Layout.slot L.Layout.column B.Bank.state B.Bank.meaning) self.old) (records (means C.Code.coding L.Layout.slot L.Layout.column B.Bank.state B.Bank.meaning) self.old) order.now.slot }
         ensures changes { Roomy (shape (means C.Code.coding L.Layout.slot L.Layout.column B.Bank.state B.Bank.meaning) self.old) (members (means C.Code.coding L.Layout.slot L.Layout.column B.Bank.state B.Bank.meaning) self.old) → StepChanges (shape (means C.Code.coding L.Layout.slot L.Layout.column B.Bank.state B.Bank.meaning) self.old) (members (means C.Code.coding L.Layout.slot L.Layout.column B.Bank.state B.Bank.meaning) self.old) (records (means C.Code.coding L.Layout.slot L.Layout.column B.Bank.state B.Bank.meaning) self.old) order.now.slot (members (means C.Code.coding L.Layout.slot L.Layout.column B.Bank.state B.Bank.meaning) self.new) (records (means C.Code.coding L.Layout.slot L.Layout.column B.Bank.state B.Bank.meaning) self.new) }
         ensures kept { PartsKept self.old self.new }
         ensures right { Roomy (shape (means C.Code.coding L.Layout.slot L.Layout.column B.Bank.state B.Bank.meaning) self.old) (members (means C.Code.coding L.Layout.slot L.Layout.column B.Bank.state B.Bank.meaning) self.old) → FitsOver (shape (means C.Code.coding L.Layout.slot L.Layout.column B.Bank.state B.Bank.meaning) self.old) (members (means C.Code.coding L.Layout.slot L.Layout.column B.Bank.state B.Bank.meaning) self.old) (records (means C.Code.coding L.Layout.slot L.Layout.column B.Bank.state B.Bank.meaning) self.old) (members (means C.Code.coding L.Layout.slot L.Layout.column B.Bank.state B.Bank.meaning) self.new) (records (means C.Code.coding L.Layout.slot L.Layout.column B.Bank.state B.Bank.meaning) self.new) × CountsKept (members (means C.Code.coding L.Layout.slot L.Layout.column B.Bank.state B.Bank.meaning) self.old) (members (means C.Code.coding L.Layout.slot L.Layout.column B.Bank.state B.Bank.meaning) self.new) }

@@ -18,5 +18,6 @@ returns g c =
     record {
       same = shape_same m v w k.code k.layout k.size;
       makes = made;
+      fault = c.step.ensures.fault;
       goes = goes (shape m v) (state m v) (state m w) (step c.args.order.now.slot) _ (no_bytes _ refl) made;
     }

@@ -1,7 +1,8 @@
-use Rattle.std.proofs.Common.{◌≡◌, ℕ, ◌<◌, true, false, cond, ◌&&◌, ltb, Err, sym, refl, ap, ◌∙◌, subst, arith}
+use Rattle.std.proofs.Common.{◌≡◌, ℕ, ◌<◌, true, false, cond, ◌&&◌, ltb, None, Err, sym, refl, ap, ◌∙◌, subst, arith}
 use Rattle.std.proofs.lemmas.Result.{err_from_is_err_and}
 use Rattle.contents.specs.declared.Refusal.{Refusal}
 use Rattle.contents.specs.Refusals.{told, outcome}
+use Rattle.contents.specs.Rebuilds.{fault_of, step_fault}
 use Rattle.contents.specs.Shapes.{Roomy, lossy, loss_at, recovered_at}
 use Rattle.contents.specs.Changes.{Moved}
 use Rattle.contents.specs.Refusals.{with_loss}
@@ -14,7 +15,7 @@ use Rattle.volume.specs.declared.size.Size.{Size}
 use Rattle.volume.specs.Sizes.{Fitting, size_of, shape_at}
 use Rattle.volume.specs.Slots.{members_of, records_of}
 use Rattle.volume.proofs.Answering.{valid_at}
-use Rattle.volume.proofs.Rebuilding.{StepDone, step_failed, step_made, open_some, column_answer}
+use Rattle.volume.proofs.Rebuilding.{StepDone, step_failed, step_made, fault_is, raised_faultless, open_some, column_answer}
 use Rattle.volume.proofs.volume.Volume.step.Goals as goal
 
 pub returns-in_err-rebuild_column : goal.returns-in_err-rebuild_column
@@ -44,7 +45,12 @@ returns-in_err-rebuild_column g c =
     subst (λ (y : Size). StepDone (shape_at C slot column y) M R i N R (Err t)) e
     (step_failed W M R i here.0 left N moved same t
     (sym (ap outcome c.in_err-rebuild_column.was) ∙ subst (λ (x : ℕ). outcome c.rebuild_column.result ≡ cond (lossy W M F x) (Err (with_loss 4 (loss_at W M F x))) (column_answer (write_refusal (M i) x block_size) x)) (sym at) (c.rebuild_column.ensures.answered (subst (λ (y : Size). Roomy (shape_at C slot column y) M) (sym e) room)))) in
+    let carried : Roomy V M → fault_of c.rebuild_column.result ≡ step_fault V M R i = λ room.
+    subst (λ (y : Size). fault_of c.rebuild_column.result ≡ step_fault (shape_at C slot column y) M R i) e
+    (subst (λ (x : ℕ). fault_of c.rebuild_column.result ≡ cond (lossy W M F x) None (write_refusal (M i) x block_size)) (sym at) (c.rebuild_column.ensures.fault (subst (λ (y : Size). Roomy (shape_at C slot column y) M) (sym e) room))
+    ∙ fault_is W M R i here.0 left N moved same) in
     record {
+      fault = λ room. ap (fault_of {U = ℕ}) p.1 ∙ ap (λ (x : Refusal). fault_of {U = Unit} (Err x)) p.2 ∙ sym (ap (fault_of {U = Unit}) c.in_err-rebuild_column.was) ∙ carried room;
       answered = λ room. ap outcome p.1 ∙ ap (λ (x : Refusal). outcome (Err x)) p.2 ∙ (done room).answered;
       changes = λ room. (done room).changes;
       kept = record { code = refl; layout = refl; size = refl };
@@ -79,7 +85,12 @@ returns g c =
     (step_made W M R i here.0 left N moved same
     (sym (ap outcome c.in_ok-rebuild_column.was) ∙ subst (λ (x : ℕ). outcome c.rebuild_column.result ≡ cond (lossy W M F x) (Err (with_loss 4 (loss_at W M F x))) (column_answer (write_refusal (M i) x block_size) x)) (sym at) (c.rebuild_column.ensures.answered (subst (λ (y : Size). Roomy (shape_at C slot column y) M) (sym e) room)))
     Q (outcome c.change.result) c.change.ensures.records c.change.ensures.answered) in
+    let carried : Roomy V M → fault_of c.rebuild_column.result ≡ step_fault V M R i = λ room.
+    subst (λ (y : Size). fault_of c.rebuild_column.result ≡ step_fault (shape_at C slot column y) M R i) e
+    (subst (λ (x : ℕ). fault_of c.rebuild_column.result ≡ cond (lossy W M F x) None (write_refusal (M i) x block_size)) (sym at) (c.rebuild_column.ensures.fault (subst (λ (y : Size). Roomy (shape_at C slot column y) M) (sym e) room))
+    ∙ fault_is W M R i here.0 left N moved same) in
     record {
+      fault = λ room. raised_faultless W M R i here.0 left N moved same c.change.result c.change.ensures.answered ∙ sym (ap (fault_of {U = Unit}) c.in_ok-rebuild_column.was) ∙ carried room;
       answered = λ room. (done room).answered;
       changes = λ room. (done room).changes;
       kept = record { code = refl; layout = refl; size = refl };

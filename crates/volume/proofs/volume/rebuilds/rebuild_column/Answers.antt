@@ -5,8 +5,10 @@ use Rattle.parity.specs.Ways.{recovered}
 use Rattle.member.specs.Faults.{Refusal}
 use Rattle.member.specs.Meaning.{write_refusal}
 use Rattle.member.specs.Changes.{Written}
-use Rattle.bank.specs.Slots.{Slots, on_slot}
+use Rattle.bank.specs.Slots.{Slots, on_slot, bank_refusal}
+use Rattle.contents.specs.Shapes.{Roomy}
 use Rattle.contents.specs.Changes.{Moved}
+use Rattle.volume.specs.Sizes.{shape_at}
 use Rattle.volume.specs.Slots.{columns_in, members_of, frontier_of}
 use Rattle.volume.proofs.Walking.{written_moved}
 use Rattle.volume.proofs.Rebuilding.{behind_missing, column_answer, rebuilt_any, write_told}
@@ -47,15 +49,16 @@ returns g c =
     let v : c.rebuild.new.into ≡ col = c.rebuild.ensures.value ∙ ap (λ (x : ℕ). recovered C (n - 2) (columns_in ms rows place n s) x) c.column_of-t.ensures.value in
     let same : ns ≡ ms = c.rebuild.ensures.same in
     let h = subst (λ (x : List ℕ). Moved (λ a b. Written a s x b) j M O) v (subst (λ (x : Slots). Moved (λ a b. Written a s c.rebuild.new.into b) j (members_of x) O) same (written_moved s c.rebuild.new.into _ _ j c.write.ensures.after)) in
+    let told : Roomy (shape_at C place (g.L.Layout.column c.args.layout.now) c.args.size) M → bank_refusal c.write.result ≡ write_refusal (M j) s 512 = λ room.
+    let r = room j c.requires.within.0 in
+    let k : 0 < (M j).count = omega (arith, c.requires.within.1) in
+    c.write.ensures.answered
+    ∙ ap (λ (x : Slots). on_slot x j s (λ y. write_refusal y s (length c.rebuild.new.into))) same
+    ∙ write_told ms j s (length c.rebuild.new.into) k
+    ∙ ap (write_refusal (M j) s) c.rebuild.auto.into in
     record {
-      answered = λ room.
-          let r = room j c.requires.within.0 in
-          let k : 0 < (M j).count = omega (arith, c.requires.within.1) in
-          let told = c.write.ensures.answered
-          ∙ ap (λ (x : Slots). on_slot x j s (λ y. write_refusal y s (length c.rebuild.new.into))) same
-          ∙ write_told ms j s (length c.rebuild.new.into) k
-          ∙ ap (write_refusal (M j) s) c.rebuild.auto.into in
-          c.lifted.ensures.answered ∙ ap (λ (o : Option Refusal). column_answer o 0) told ∙ rebuilt_any (write_refusal (M j) s 512) 0 s ∙ sym (cond-false _ _ _ f);
+      answered = λ room. c.lifted.ensures.answered ∙ ap (λ (o : Option Refusal). column_answer o 0) (told room) ∙ rebuilt_any (write_refusal (M j) s 512) 0 s ∙ sym (cond-false _ _ _ f);
+      fault = λ room. c.lifted.ensures.fault ∙ told room ∙ sym (cond-false _ _ _ f);
       taken = λ _. h;
       refused = λ t. absurd (false≢true (sym f ∙ t));
     }
