@@ -60,7 +60,7 @@ def respelled(name):
     if name in OTHERWISE:
         return OTHERWISE[name]
     name = name.replace("getD", "get_or").replace("′", "'")
-    parts = name.split("-")
+    parts = re.split("[-_]", name) if name[:1].isupper() else name.split("-")
     if parts[0][:1].isupper() and len(parts[0]) > 1:
         return "".join(p[:1].upper() + p[1:] for p in parts)
     return "_".join(parts)

@@ -10,7 +10,7 @@ use Rattle.history.specs.Calls.{State, Answer}
 use Rattle.history.specs.Calls.Call.{open_slot, step, close}
 use Rattle.history.specs.Calls.Answer.{number, order, refused}
 use Rattle.history.specs.History.{Event, Kept}
-use Rattle.runs.specs.Told.{event, Goes_on}
+use Rattle.runs.specs.Told.{event, GoesOn}
 use Rattle.runs.proofs.Logged.{goes_nowhere, goes_further}
 use Rattle.script.specs.declared.parts.Act.TheVariants.{Rebuild}
 use Rattle.recorder.specs.Acts.{SteppedOn, none, more, spent, ended, halted, kept_shut, rebuilt, rebuild_line, ActsOn, StepsOn}
@@ -24,22 +24,22 @@ use Rattle.recorder.specs.Runs.{Ran, start, next, RanOn, ActStep, AllLines, Repl
 pub record GoingOn (V : Shape) (σ : State) (i n : ℕ) (τ : State) : Type 0 where
   pub log : List Event
   pub stepped : SteppedOn V.stripes i n log
-  pub goes : Goes_on V σ log τ
+  pub goes : GoesOn V σ log τ
 
 pub going_none : (V : Shape) (σ : State) (i : ℕ) → GoingOn V σ i 0 σ
 going_none V σ i = record { log = []; stepped = none; goes = goes_nowhere V σ }
 
 module _ (V W : Shape) (σ τ ρ : State) (i n : ℕ) (same : W ≡ V) (g : GoingOn V σ i n τ) where
-  abbrev further : (r : Answer) → Goes_on W τ (event (step i) r) ρ → Goes_on V σ (g.log ++ event (step i) r) ρ
-  further r h = goes_further V σ τ ρ g.log (event (step i) r) g.goes (subst (λ (X : Shape). Goes_on X τ (event (step i) r) ρ) same h)
+  abbrev further : (r : Answer) → GoesOn W τ (event (step i) r) ρ → GoesOn V σ (g.log ++ event (step i) r) ρ
+  further r h = goes_further V σ τ ρ g.log (event (step i) r) g.goes (subst (λ (X : Shape). GoesOn X τ (event (step i) r) ρ) same h)
 
-  pub going_more : (f : ℕ) → f < V.stripes → Goes_on W τ (event (step i) (number f)) ρ → GoingOn V σ i (n + 1) ρ
+  pub going_more : (f : ℕ) → f < V.stripes → GoesOn W τ (event (step i) (number f)) ρ → GoingOn V σ i (n + 1) ρ
   going_more f l h = record { log = g.log ++ event (step i) (number f); stepped = more n f g.log g.stepped l; goes = further (number f) h }
 
-  pub steps_ended : (y f : ℕ) → n < y → V.stripes ≤ f → Goes_on W τ (event (step i) (number f)) ρ → StepsOn V σ i y None ρ
+  pub steps_ended : (y f : ℕ) → n < y → V.stripes ≤ f → GoesOn W τ (event (step i) (number f)) ρ → StepsOn V σ i y None ρ
   steps_ended y f l k h = record { log = g.log ++ event (step i) (number f); stopped = ended n f g.log l g.stepped k; goes = further (number f) h }
 
-  pub steps_halted : (y : ℕ) (t : Told) → n < y → Goes_on W τ (event (step i) (refused t)) ρ → StepsOn V σ i y (Some t) ρ
+  pub steps_halted : (y : ℕ) (t : Told) → n < y → GoesOn W τ (event (step i) (refused t)) ρ → StepsOn V σ i y (Some t) ρ
   steps_halted y t l h = record { log = g.log ++ event (step i) (refused t); stopped = halted n t g.log l g.stepped; goes = further (refused t) h }
 
 pub steps_spent : (V : Shape) (σ τ : State) (i n y : ℕ) → n ≡ y → GoingOn V σ i n τ → StepsOn V σ i y None τ
@@ -50,16 +50,16 @@ steps_spent V σ τ i n y e g = record {
 }
 
 -- ---- a rebuild
-pub rebuild_refused : (V : Shape) (σ τ : State) (i y : ℕ) (t : Told) → Goes_on V σ (event (open_slot i) (refused t)) τ → ActsOn V σ (Rebuild i y) (refused_line t) τ
+pub rebuild_refused : (V : Shape) (σ τ : State) (i y : ℕ) (t : Told) → GoesOn V σ (event (open_slot i) (refused t)) τ → ActsOn V σ (Rebuild i y) (refused_line t) τ
 rebuild_refused V σ τ i y t h = record { log = event (open_slot i) (refused t); acted = kept_shut t; goes = h }
 
 -- opened, stepped and closed
-pub rebuild_done : (V W X : Shape) (σ τ ρ υ : State) (i y j : ℕ) (stop : Option Told) (r : Answer) → W ≡ V → X ≡ V → j ≡ i → Goes_on V σ (event (open_slot i) (order j)) τ
-    → StepsOn W τ j y stop ρ → Goes_on X ρ (event (close j) r) υ → ActsOn V σ (Rebuild i y) (rebuild_line stop r) υ
+pub rebuild_done : (V W X : Shape) (σ τ ρ υ : State) (i y j : ℕ) (stop : Option Told) (r : Answer) → W ≡ V → X ≡ V → j ≡ i → GoesOn V σ (event (open_slot i) (order j)) τ
+    → StepsOn W τ j y stop ρ → GoesOn X ρ (event (close j) r) υ → ActsOn V σ (Rebuild i y) (rebuild_line stop r) υ
 rebuild_done V W X σ τ ρ υ i y j stop r ew ex e f g h =
-    let f' = subst (λ (k : ℕ). Goes_on V σ (event (open_slot i) (order k)) τ) e f in
+    let f' = subst (λ (k : ℕ). GoesOn V σ (event (open_slot i) (order k)) τ) e f in
     let g' = subst (λ (Z : Shape). StepsOn Z τ i y stop ρ) ew (subst (λ (k : ℕ). StepsOn W τ k y stop ρ) e g) in
-    let h' = subst (λ (Z : Shape). Goes_on Z ρ (event (close i) r) υ) ex (subst (λ (k : ℕ). Goes_on X ρ (event (close k) r) υ) e h) in
+    let h' = subst (λ (Z : Shape). GoesOn Z ρ (event (close i) r) υ) ex (subst (λ (k : ℕ). GoesOn X ρ (event (close k) r) υ) e h) in
     record {
       log = event (open_slot i) (order i) ++ (g'.log ++ event (close i) r);
       acted = rebuilt g'.log stop r g'.stopped;

@@ -7,7 +7,7 @@ use Rattle.history.specs.Calls.{State, Call, Answer}
 use Rattle.history.specs.Calls.Call.{tick, read, write, scrub, replace, open_slot, step, close}
 use Rattle.history.specs.Calls.Answer.{number, order, refused}
 use Rattle.history.specs.History.{Event}
-use Rattle.runs.specs.Told.{event, Goes_on}
+use Rattle.runs.specs.Told.{event, GoesOn}
 use Rattle.script.specs.declared.parts.Act.{Act}
 use Rattle.script.specs.declared.parts.Act.TheVariants.{Tick, Read, Write, Scrub, Replace, Rebuild, Unknown}
 use Rattle.recorder.specs.Lines.{line_of, refused_line, unknown_line}
@@ -59,10 +59,10 @@ Acted S Unknown es r = (es ≡ []) × (r ≡ unknown_line)
 pub record ActsOn (V : Shape) (σ : State) (a : Act) (r : ℕ × ℕ) (τ : State) : Type 0 where
   pub log : List Event
   pub acted : Acted V.stripes a log r
-  pub goes : Goes_on V σ log τ
+  pub goes : GoesOn V σ log τ
 
 -- the steps of a rebuild on a volume
 pub record StepsOn (V : Shape) (σ : State) (i y : ℕ) (stop : Option Told) (τ : State) : Type 0 where
   pub log : List Event
   pub stopped : Stopped V.stripes i y log stop
-  pub goes : Goes_on V σ log τ
+  pub goes : GoesOn V σ log τ

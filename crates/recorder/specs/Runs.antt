@@ -8,7 +8,7 @@ use Rattle.contents.specs.Records.{idle_at}
 use Rattle.contents.specs.Shapes.{Shape}
 use Rattle.history.specs.Calls.{State}
 use Rattle.history.specs.History.{Event, Kept}
-use Rattle.runs.specs.Told.{Goes_on}
+use Rattle.runs.specs.Told.{GoesOn}
 use Rattle.script.specs.Acts.{act_of}
 use Rattle.script.specs.Format.{operation_at, operation_count}
 use Rattle.script.specs.Text.{line_text}
@@ -39,7 +39,7 @@ pub data Ran (S : ℕ) (xs : List ℕ) : ℕ → List Event → List ℕ → Typ
 pub record RanOn (V : Shape) (xs : List ℕ) (n : ℕ) (σ τ : State) (t : List ℕ) : Type 0 where
   pub log : List Event
   pub ran : Ran V.stripes xs n log t
-  pub goes : Goes_on V σ log τ
+  pub goes : GoesOn V σ log τ
 
 -- all operations of the script xs on the volume σ give the text t
 pub record AllLines (V : Shape) (xs : List ℕ) (σ : State) (t : List ℕ) : Type 0 where

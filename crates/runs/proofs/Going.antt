@@ -16,7 +16,7 @@ use Rattle.volume.specs.declared.size.Size.{Size}
 use Rattle.volume.specs.Sizes.{size_of, shape_at}
 use Rattle.volume.specs.Slots.{records_of}
 use Rattle.volume.specs.Volumes.{Means, shape, records, ordered}
-use Rattle.runs.specs.Told.{event, event_with, Goes_on}
+use Rattle.runs.specs.Told.{event, event_with, GoesOn}
 
 -- ---- what no call changes
 module _ {C L B : Type 0} (m : Means C L B) (v w : Volume C L B) where
@@ -49,12 +49,12 @@ no_bytes q h a v e = absurd (false≢true (sym h ∙ ap is_write e))
 pub given : (a : ℕ) (v : List ℕ) → Bytes (length v) v → GivenBytes (write a v)
 given a v h b x e = let d : v ≡ x = cc in subst (λ (y : List ℕ). Bytes (length y) y) d h
 
-pub goes : (V : Shape) (σ τ : State) (q : Call) (r : Answer) → GivenBytes q → (Roomy V σ.members → Makes V σ q r τ) → Goes_on V σ (event q r) τ
+pub goes : (V : Shape) (σ τ : State) (q : Call) (r : Answer) → GivenBytes q → (Roomy V σ.members → Makes V σ q r τ) → GoesOn V σ (event q r) τ
 goes V σ τ q r given makes start es k = kept_by_calls V start es σ τ q r k given (makes (kept_is_roomy V start es σ k))
 
 -- a call whose answer was recorded
-pub recorded : (V : Shape) (σ τ : State) (q : Call) (rs : List Answer) (r : Answer) → rs ≡ r ∷ [] → Goes_on V σ (event q r) τ → Goes_on V σ (event_with q rs) τ
-recorded V σ τ q rs r e g = subst (λ (l : List Answer). Goes_on V σ (event_with q l) τ) (sym e) g
+pub recorded : (V : Shape) (σ τ : State) (q : Call) (rs : List Answer) (r : Answer) → rs ≡ r ∷ [] → GoesOn V σ (event q r) τ → GoesOn V σ (event_with q rs) τ
+recorded V σ τ q rs r e g = subst (λ (l : List Answer). GoesOn V σ (event_with q l) τ) (sym e) g
 
 -- what an answered read left in its buffer is what is recovered
 pub handed_out : (x : Result Unit Told) (held block old : List ℕ) → held ≡ cond (is_ok x) block old → answered (λ _. bytes held) x ≡ answered (λ _. bytes block) x

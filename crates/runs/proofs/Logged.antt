@@ -9,7 +9,7 @@ use Rattle.history.specs.History.{Event, Kept}
 use Rattle.volume.specs.declared.volume.rebuilds.Order.{Order}
 use Rattle.runs.specs.declared.Call.{Call}
 use Rattle.runs.specs.declared.Answer.{Answer}
-use Rattle.runs.specs.Told.{event, event_of, orders_after, events, orders_left, lacks, is_none, AllMade, Goes_on, closings, ClosesOn}
+use Rattle.runs.specs.Told.{event, event_of, orders_after, events, orders_left, lacks, is_none, AllMade, GoesOn, closings, ClosesOn}
 
 pub orders_push : (os : List Order) (qs : List Call) (rs : List Answer) (q : Call) (r : Answer) → length qs ≡ length rs
     → orders_left os (qs ++ q ∷ []) (rs ++ r ∷ []) ≡ orders_after (orders_left os qs rs) q r
@@ -35,10 +35,10 @@ all_made_push os (x ∷ qs) [] q r e h m = absurd (omega arith)
 all_made_push os (x ∷ qs) (y ∷ rs) q r e h m = (h.0, all_made_push (orders_after os x y) qs rs q r (omega arith) h.1 m)
 
 -- ---- histories
-pub goes_nowhere : (V : Shape) (σ : State) → Goes_on V σ [] σ
+pub goes_nowhere : (V : Shape) (σ : State) → GoesOn V σ [] σ
 goes_nowhere V σ start es k = subst (λ (l : List Event). Kept V start l σ) (sym (append-nil es)) k
 
-pub goes_further : (V : Shape) (σ τ ρ : State) (xs ys : List Event) → Goes_on V σ xs τ → Goes_on V τ ys ρ → Goes_on V σ (xs ++ ys) ρ
+pub goes_further : (V : Shape) (σ τ ρ : State) (xs ys : List Event) → GoesOn V σ xs τ → GoesOn V τ ys ρ → GoesOn V σ (xs ++ ys) ρ
 goes_further V σ τ ρ xs ys f g start es k = subst (λ (l : List Event). Kept V start l ρ) (append_assoc es xs ys) (g start (es ++ xs) (f start es k))
 
 -- ---- orders closed one after the other
@@ -49,7 +49,7 @@ calls_of = map (λ (e : Event). e.call)
 pub record Closing (V : Shape) (σ : State) (all rest : List Order) (τ : State) : Type 0 where
   pub log : List Event
   pub made : calls_of log ++ closings rest ≡ closings all
-  pub goes : Goes_on V σ log τ
+  pub goes : GoesOn V σ log τ
 
 pub closing_none : (V : Shape) (σ : State) (os : List Order) → Closing V σ os os σ
 closing_none V σ os = record { log = []; made = refl; goes = goes_nowhere V σ }
@@ -58,7 +58,7 @@ last_first : (rest : List Order) (o : Order) → closings (rest ++ o ∷ []) ≡
 last_first rest o = ap (map (λ (x : Order). close x.slot)) (reverse-append rest (o ∷ []))
 
 pub closing_more : (V W : Shape) (σ τ ρ : State) (all before rest : List Order) (o : Order) (r : calls.Answer) → W ≡ V → before ≡ rest ++ o ∷ []
-    → Closing V σ all before τ → Goes_on W τ (event (close o.slot) r) ρ → Closing V σ all rest ρ
+    → Closing V σ all before τ → GoesOn W τ (event (close o.slot) r) ρ → Closing V σ all rest ρ
 closing_more V W σ τ ρ all before rest o r same e k g =
     let new = event (close o.slot) r in
     record {
@@ -67,7 +67,7 @@ closing_more V W σ τ ρ all before rest o r same e k g =
           ∙ append_assoc (calls_of k.log) (close o.slot ∷ []) (closings rest)
           ∙ ap (λ (l : List calls.Call). calls_of k.log ++ l) (sym (ap closings e ∙ last_first rest o))
           ∙ k.made;
-      goes = goes_further V σ τ ρ k.log new k.goes (subst (λ (X : Shape). Goes_on X τ new ρ) same g);
+      goes = goes_further V σ τ ρ k.log new k.goes (subst (λ (X : Shape). GoesOn X τ new ρ) same g);
     }
 
 pub closing_all : (V : Shape) (σ τ : State) (all rest : List Order) → rest ≡ [] → Closing V σ all rest τ → ClosesOn V σ all τ

@@ -121,8 +121,8 @@ orders_left os (q ∷ qs) [] = os
 orders_left os (q ∷ qs) (r ∷ rs) = orders_left (orders_after os q r) qs rs
 
 -- whatever history the volume has, it goes on by these events: what is promised of it goes on holding
-abbrev pub Goes_on : Shape → State → List Event → State → Type 0
-Goes_on V σ new τ = (start : State) (es : List Event) → Kept V start es σ → Kept V start (es ++ new) τ
+abbrev pub GoesOn : Shape → State → List Event → State → Type 0
+GoesOn V σ new τ = (start : State) (es : List Event) → Kept V start es σ → Kept V start (es ++ new) τ
 
 -- the calls that close these orders, the last first
 abbrev pub closings : List Order → List calls.Call
@@ -132,4 +132,4 @@ closings os = map (λ (o : Order). close o.slot) (reverse os)
 pub record ClosesOn (V : Shape) (σ : State) (os : List Order) (τ : State) : Type 0 where
   pub log : List Event
   pub closes : map (λ (e : Event). e.call) log ≡ closings os
-  pub goes : Goes_on V σ log τ
+  pub goes : GoesOn V σ log τ

@@ -11,7 +11,7 @@ ghost use Rattle.volume.specs.Slots.{members_of};
 ghost use Rattle.history.specs.History.{Kept};
 ghost use Rattle.volume.specs.Volumes.{means, shape, members, records};
 ghost use Rattle.runs.specs.declared.Call.TheVariants.{Read as Reading, Open as Opening, Step as Stepping, Close as Closing};
-ghost use Rattle.runs.specs.Told.{state, event_of, orders_after, events, orders_left, lacks, is_none, AllMade, Goes_on, ClosesOn};
+ghost use Rattle.runs.specs.Told.{state, event_of, orders_after, events, orders_left, lacks, is_none, AllMade, GoesOn, ClosesOn};
 
 use bank::Bank;
 use code::{BLOCK, Code};
@@ -70,7 +70,7 @@ fn read_into<C: Code, L: Layout, B: Bank>(
     len: usize,
 ) -> Answer
     ensures same { (shape (means C.Code.coding L.Layout.slot L.Layout.column B.Bank.state B.Bank.meaning) volume.new) ≡ (shape (means C.Code.coding L.Layout.slot L.Layout.column B.Bank.state B.Bank.meaning) volume.old) }
-    ensures goes { Goes_on (shape (means C.Code.coding L.Layout.slot L.Layout.column B.Bank.state B.Bank.meaning) volume.old) (state (means C.Code.coding L.Layout.slot L.Layout.column B.Bank.state B.Bank.meaning) volume.old) (event_of [] (Reading block len) result) (state (means C.Code.coding L.Layout.slot L.Layout.column B.Bank.state B.Bank.meaning) volume.new) }
+    ensures goes { GoesOn (shape (means C.Code.coding L.Layout.slot L.Layout.column B.Bank.state B.Bank.meaning) volume.old) (state (means C.Code.coding L.Layout.slot L.Layout.column B.Bank.state B.Bank.meaning) volume.old) (event_of [] (Reading block len) result) (state (means C.Code.coding L.Layout.slot L.Layout.column B.Bank.state B.Bank.meaning) volume.new) }
     ensures made { is_none result ≡ false }
 {
     let mut held = [0u8; BLOCK];
@@ -89,7 +89,7 @@ fn open_slot<C: Code, L: Layout, B: Bank>(
 ) -> Answer
     requires room { vec_len orders.old < vec_capacity orders.old }
     ensures same { (shape (means C.Code.coding L.Layout.slot L.Layout.column B.Bank.state B.Bank.meaning) volume.new) ≡ (shape (means C.Code.coding L.Layout.slot L.Layout.column B.Bank.state B.Bank.meaning) volume.old) }
-    ensures goes { Goes_on (shape (means C.Code.coding L.Layout.slot L.Layout.column B.Bank.state B.Bank.meaning) volume.old) (state (means C.Code.coding L.Layout.slot L.Layout.column B.Bank.state B.Bank.meaning) volume.old) (event_of orders.old.items (Opening slot) result) (state (means C.Code.coding L.Layout.slot L.Layout.column B.Bank.state B.Bank.meaning) volume.new) }
+    ensures goes { GoesOn (shape (means C.Code.coding L.Layout.slot L.Layout.column B.Bank.state B.Bank.meaning) volume.old) (state (means C.Code.coding L.Layout.slot L.Layout.column B.Bank.state B.Bank.meaning) volume.old) (event_of orders.old.items (Opening slot) result) (state (means C.Code.coding L.Layout.slot L.Layout.column B.Bank.state B.Bank.meaning) volume.new) }
     ensures made { is_none result ≡ false }
     ensures orders { orders.new.items ≡ orders_after orders.old.items (Opening slot) result }
     ensures len { vec_len orders.new ≤ vec_len orders.old + 1 }
@@ -112,7 +112,7 @@ fn step_by<C: Code, L: Layout, B: Bank>(
     place: usize,
 ) -> Answer
     ensures same { (shape (means C.Code.coding L.Layout.slot L.Layout.column B.Bank.state B.Bank.meaning) volume.new) ≡ (shape (means C.Code.coding L.Layout.slot L.Layout.column B.Bank.state B.Bank.meaning) volume.old) }
-    ensures goes { Goes_on (shape (means C.Code.coding L.Layout.slot L.Layout.column B.Bank.state B.Bank.meaning) volume.old) (state (means C.Code.coding L.Layout.slot L.Layout.column B.Bank.state B.Bank.meaning) volume.old) (event_of orders.now.items (Stepping place) result) (state (means C.Code.coding L.Layout.slot L.Layout.column B.Bank.state B.Bank.meaning) volume.new) }
+    ensures goes { GoesOn (shape (means C.Code.coding L.Layout.slot L.Layout.column B.Bank.state B.Bank.meaning) volume.old) (state (means C.Code.coding L.Layout.slot L.Layout.column B.Bank.state B.Bank.meaning) volume.old) (event_of orders.now.items (Stepping place) result) (state (means C.Code.coding L.Layout.slot L.Layout.column B.Bank.state B.Bank.meaning) volume.new) }
     ensures made { is_none result ≡ lacks orders.now.items (Stepping place) }
 {
     let Some(order) = orders.get(place) else {
@@ -128,7 +128,7 @@ fn close_by<C: Code, L: Layout, B: Bank>(
     place: usize,
 ) -> Answer
     ensures same { (shape (means C.Code.coding L.Layout.slot L.Layout.column B.Bank.state B.Bank.meaning) volume.new) ≡ (shape (means C.Code.coding L.Layout.slot L.Layout.column B.Bank.state B.Bank.meaning) volume.old) }
-    ensures goes { Goes_on (shape (means C.Code.coding L.Layout.slot L.Layout.column B.Bank.state B.Bank.meaning) volume.old) (state (means C.Code.coding L.Layout.slot L.Layout.column B.Bank.state B.Bank.meaning) volume.old) (event_of orders.old.items (Closing place) result) (state (means C.Code.coding L.Layout.slot L.Layout.column B.Bank.state B.Bank.meaning) volume.new) }
+    ensures goes { GoesOn (shape (means C.Code.coding L.Layout.slot L.Layout.column B.Bank.state B.Bank.meaning) volume.old) (state (means C.Code.coding L.Layout.slot L.Layout.column B.Bank.state B.Bank.meaning) volume.old) (event_of orders.old.items (Closing place) result) (state (means C.Code.coding L.Layout.slot L.Layout.column B.Bank.state B.Bank.meaning) volume.new) }
     ensures made { is_none result ≡ lacks orders.old.items (Closing place) }
     ensures orders { orders.new.items ≡ orders_after orders.old.items (Closing place) result }
     ensures len { vec_len orders.new ≤ vec_len orders.old + 1 }
@@ -148,7 +148,7 @@ fn obey<C: Code, L: Layout, B: Bank>(
 ) -> Answer
     requires room { vec_len orders.old < vec_capacity orders.old }
     ensures same { (shape (means C.Code.coding L.Layout.slot L.Layout.column B.Bank.state B.Bank.meaning) volume.new) ≡ (shape (means C.Code.coding L.Layout.slot L.Layout.column B.Bank.state B.Bank.meaning) volume.old) }
-    ensures goes { Goes_on (shape (means C.Code.coding L.Layout.slot L.Layout.column B.Bank.state B.Bank.meaning) volume.old) (state (means C.Code.coding L.Layout.slot L.Layout.column B.Bank.state B.Bank.meaning) volume.old) (event_of orders.old.items call.now result) (state (means C.Code.coding L.Layout.slot L.Layout.column B.Bank.state B.Bank.meaning) volume.new) }
+    ensures goes { GoesOn (shape (means C.Code.coding L.Layout.slot L.Layout.column B.Bank.state B.Bank.meaning) volume.old) (state (means C.Code.coding L.Layout.slot L.Layout.column B.Bank.state B.Bank.meaning) volume.old) (event_of orders.old.items call.now result) (state (means C.Code.coding L.Layout.slot L.Layout.column B.Bank.state B.Bank.meaning) volume.new) }
     ensures made { is_none result ≡ lacks orders.old.items call.now }
     ensures orders { orders.new.items ≡ orders_after orders.old.items call.now result }
     ensures len { vec_len orders.new ≤ vec_len orders.old + 1 }
@@ -181,7 +181,7 @@ pub fn run<C: Code, L: Layout, B: Bank>(
     ensures same { (shape (means C.Code.coding L.Layout.slot L.Layout.column B.Bank.state B.Bank.meaning) volume.new) ≡ (shape (means C.Code.coding L.Layout.slot L.Layout.column B.Bank.state B.Bank.meaning) volume.old) }
     ensures each { IfOk result (λ log. length log.items ≡ length calls.now) }
     ensures all { IfOk result (λ log. AllMade orders.old.items calls.now log.items) }
-    ensures promise { IfOk result (λ log. Goes_on (shape (means C.Code.coding L.Layout.slot L.Layout.column B.Bank.state B.Bank.meaning) volume.old) (state (means C.Code.coding L.Layout.slot L.Layout.column B.Bank.state B.Bank.meaning) volume.old) (events orders.old.items calls.now log.items) (state (means C.Code.coding L.Layout.slot L.Layout.column B.Bank.state B.Bank.meaning) volume.new)) }
+    ensures promise { IfOk result (λ log. GoesOn (shape (means C.Code.coding L.Layout.slot L.Layout.column B.Bank.state B.Bank.meaning) volume.old) (state (means C.Code.coding L.Layout.slot L.Layout.column B.Bank.state B.Bank.meaning) volume.old) (events orders.old.items calls.now log.items) (state (means C.Code.coding L.Layout.slot L.Layout.column B.Bank.state B.Bank.meaning) volume.new)) }
     ensures orders { IfOk result (λ log. orders.new.items ≡ orders_left orders.old.items calls.now log.items) }
     ensures unchanged { OnErr result ((volume.new ≡ volume.old) × (orders.new.items ≡ orders.old.items)) }
 {

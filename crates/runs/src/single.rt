@@ -9,7 +9,7 @@ ghost use Rattle.contents.specs.Answers.{read_leaves};
 ghost use Rattle.contents.specs.Rebuilds.{fault_of, step_fault};
 ghost use Rattle.volume.specs.Turns.{in_turn};
 ghost use Rattle.volume.specs.Volumes.{means, shape, members, frontiers, ordered};
-ghost use Rattle.runs.specs.Told.{state, event, Goes_on};
+ghost use Rattle.runs.specs.Told.{state, event, GoesOn};
 
 use bank::Bank;
 use code::Code;
@@ -23,7 +23,7 @@ pub fn tick<C: Code, L: Layout, B: Bank>(volume: &mut Volume<C, L, B>)
     ensures exact { B.Bank.state volume.new.bank ≡ in_turn B.Bank.ticked (shape (means C.Code.coding L.Layout.slot L.Layout.column B.Bank.state B.Bank.meaning) volume.old).slots (B.Bank.state volume.old.bank) }
     ensures same { (shape (means C.Code.coding L.Layout.slot L.Layout.column B.Bank.state B.Bank.meaning) volume.new) ≡ (shape (means C.Code.coding L.Layout.slot L.Layout.column B.Bank.state B.Bank.meaning) volume.old) }
     ensures makes { Makes (shape (means C.Code.coding L.Layout.slot L.Layout.column B.Bank.state B.Bank.meaning) volume.old) (state (means C.Code.coding L.Layout.slot L.Layout.column B.Bank.state B.Bank.meaning) volume.old) ticks done (state (means C.Code.coding L.Layout.slot L.Layout.column B.Bank.state B.Bank.meaning) volume.new) }
-    ensures goes { Goes_on (shape (means C.Code.coding L.Layout.slot L.Layout.column B.Bank.state B.Bank.meaning) volume.old) (state (means C.Code.coding L.Layout.slot L.Layout.column B.Bank.state B.Bank.meaning) volume.old) (event ticks done) (state (means C.Code.coding L.Layout.slot L.Layout.column B.Bank.state B.Bank.meaning) volume.new) }
+    ensures goes { GoesOn (shape (means C.Code.coding L.Layout.slot L.Layout.column B.Bank.state B.Bank.meaning) volume.old) (state (means C.Code.coding L.Layout.slot L.Layout.column B.Bank.state B.Bank.meaning) volume.old) (event ticks done) (state (means C.Code.coding L.Layout.slot L.Layout.column B.Bank.state B.Bank.meaning) volume.new) }
 {
     volume.tick();
 }
@@ -37,7 +37,7 @@ pub fn read<C: Code, L: Layout, B: Bank>(
     ensures after { buffer.new ≡ read_leaves (shape (means C.Code.coding L.Layout.slot L.Layout.column B.Bank.state B.Bank.meaning) volume.old) (members (means C.Code.coding L.Layout.slot L.Layout.column B.Bank.state B.Bank.meaning) volume.old) (frontiers (means C.Code.coding L.Layout.slot L.Layout.column B.Bank.state B.Bank.meaning) volume.old) block buffer.old }
     ensures same { (shape (means C.Code.coding L.Layout.slot L.Layout.column B.Bank.state B.Bank.meaning) volume.new) ≡ (shape (means C.Code.coding L.Layout.slot L.Layout.column B.Bank.state B.Bank.meaning) volume.old) }
     ensures makes { Makes (shape (means C.Code.coding L.Layout.slot L.Layout.column B.Bank.state B.Bank.meaning) volume.old) (state (means C.Code.coding L.Layout.slot L.Layout.column B.Bank.state B.Bank.meaning) volume.old) (reads block (length buffer.old)) (answered (λ _. block_of buffer.new) (outcome result)) (state (means C.Code.coding L.Layout.slot L.Layout.column B.Bank.state B.Bank.meaning) volume.new) }
-    ensures goes { Goes_on (shape (means C.Code.coding L.Layout.slot L.Layout.column B.Bank.state B.Bank.meaning) volume.old) (state (means C.Code.coding L.Layout.slot L.Layout.column B.Bank.state B.Bank.meaning) volume.old) (event (reads block (length buffer.old)) (answered (λ _. block_of buffer.new) (outcome result))) (state (means C.Code.coding L.Layout.slot L.Layout.column B.Bank.state B.Bank.meaning) volume.new) }
+    ensures goes { GoesOn (shape (means C.Code.coding L.Layout.slot L.Layout.column B.Bank.state B.Bank.meaning) volume.old) (state (means C.Code.coding L.Layout.slot L.Layout.column B.Bank.state B.Bank.meaning) volume.old) (event (reads block (length buffer.old)) (answered (λ _. block_of buffer.new) (outcome result))) (state (means C.Code.coding L.Layout.slot L.Layout.column B.Bank.state B.Bank.meaning) volume.new) }
 {
     volume.read(block, buffer)
 }
@@ -50,7 +50,7 @@ pub fn write<C: Code, L: Layout, B: Bank>(
 ) -> Result<usize, Refusal>
     ensures same { (shape (means C.Code.coding L.Layout.slot L.Layout.column B.Bank.state B.Bank.meaning) volume.new) ≡ (shape (means C.Code.coding L.Layout.slot L.Layout.column B.Bank.state B.Bank.meaning) volume.old) }
     ensures makes { Makes (shape (means C.Code.coding L.Layout.slot L.Layout.column B.Bank.state B.Bank.meaning) volume.old) (state (means C.Code.coding L.Layout.slot L.Layout.column B.Bank.state B.Bank.meaning) volume.old) (writes block bytes.now) (answered number (outcome result)) (state (means C.Code.coding L.Layout.slot L.Layout.column B.Bank.state B.Bank.meaning) volume.new) }
-    ensures goes { Goes_on (shape (means C.Code.coding L.Layout.slot L.Layout.column B.Bank.state B.Bank.meaning) volume.old) (state (means C.Code.coding L.Layout.slot L.Layout.column B.Bank.state B.Bank.meaning) volume.old) (event (writes block bytes.now) (answered number (outcome result))) (state (means C.Code.coding L.Layout.slot L.Layout.column B.Bank.state B.Bank.meaning) volume.new) }
+    ensures goes { GoesOn (shape (means C.Code.coding L.Layout.slot L.Layout.column B.Bank.state B.Bank.meaning) volume.old) (state (means C.Code.coding L.Layout.slot L.Layout.column B.Bank.state B.Bank.meaning) volume.old) (event (writes block bytes.now) (answered number (outcome result))) (state (means C.Code.coding L.Layout.slot L.Layout.column B.Bank.state B.Bank.meaning) volume.new) }
 {
     volume.write(block, bytes)
 }
@@ -62,7 +62,7 @@ pub fn scrub<C: Code, L: Layout, B: Bank>(
 ) -> Result<(usize, usize, usize), Refusal>
     ensures same { (shape (means C.Code.coding L.Layout.slot L.Layout.column B.Bank.state B.Bank.meaning) volume.new) ≡ (shape (means C.Code.coding L.Layout.slot L.Layout.column B.Bank.state B.Bank.meaning) volume.old) }
     ensures makes { Makes (shape (means C.Code.coding L.Layout.slot L.Layout.column B.Bank.state B.Bank.meaning) volume.old) (state (means C.Code.coding L.Layout.slot L.Layout.column B.Bank.state B.Bank.meaning) volume.old) (scrubs stripe) (answered (λ x. counts x.0 x.1 x.2) (outcome result)) (state (means C.Code.coding L.Layout.slot L.Layout.column B.Bank.state B.Bank.meaning) volume.new) }
-    ensures goes { Goes_on (shape (means C.Code.coding L.Layout.slot L.Layout.column B.Bank.state B.Bank.meaning) volume.old) (state (means C.Code.coding L.Layout.slot L.Layout.column B.Bank.state B.Bank.meaning) volume.old) (event (scrubs stripe) (answered (λ x. counts x.0 x.1 x.2) (outcome result))) (state (means C.Code.coding L.Layout.slot L.Layout.column B.Bank.state B.Bank.meaning) volume.new) }
+    ensures goes { GoesOn (shape (means C.Code.coding L.Layout.slot L.Layout.column B.Bank.state B.Bank.meaning) volume.old) (state (means C.Code.coding L.Layout.slot L.Layout.column B.Bank.state B.Bank.meaning) volume.old) (event (scrubs stripe) (answered (λ x. counts x.0 x.1 x.2) (outcome result))) (state (means C.Code.coding L.Layout.slot L.Layout.column B.Bank.state B.Bank.meaning) volume.new) }
 {
     volume.scrub(stripe)
 }
@@ -75,7 +75,7 @@ pub fn replace<C: Code, L: Layout, B: Bank>(
     ensures exact { B.Bank.state volume.new.bank ≡ (if is_ok result then B.Bank.renewed (B.Bank.state volume.old.bank) slot else B.Bank.state volume.old.bank) }
     ensures same { (shape (means C.Code.coding L.Layout.slot L.Layout.column B.Bank.state B.Bank.meaning) volume.new) ≡ (shape (means C.Code.coding L.Layout.slot L.Layout.column B.Bank.state B.Bank.meaning) volume.old) }
     ensures makes { Makes (shape (means C.Code.coding L.Layout.slot L.Layout.column B.Bank.state B.Bank.meaning) volume.old) (state (means C.Code.coding L.Layout.slot L.Layout.column B.Bank.state B.Bank.meaning) volume.old) (replaces slot) (answered (λ _. done) (outcome result)) (state (means C.Code.coding L.Layout.slot L.Layout.column B.Bank.state B.Bank.meaning) volume.new) }
-    ensures goes { Goes_on (shape (means C.Code.coding L.Layout.slot L.Layout.column B.Bank.state B.Bank.meaning) volume.old) (state (means C.Code.coding L.Layout.slot L.Layout.column B.Bank.state B.Bank.meaning) volume.old) (event (replaces slot) (answered (λ _. done) (outcome result))) (state (means C.Code.coding L.Layout.slot L.Layout.column B.Bank.state B.Bank.meaning) volume.new) }
+    ensures goes { GoesOn (shape (means C.Code.coding L.Layout.slot L.Layout.column B.Bank.state B.Bank.meaning) volume.old) (state (means C.Code.coding L.Layout.slot L.Layout.column B.Bank.state B.Bank.meaning) volume.old) (event (replaces slot) (answered (λ _. done) (outcome result))) (state (means C.Code.coding L.Layout.slot L.Layout.column B.Bank.state B.Bank.meaning) volume.new) }
 {
     volume.replace(slot)
 }
@@ -88,7 +88,7 @@ pub fn open<C: Code, L: Layout, B: Bank>(
     ensures order { IfOk result (λ o. o.slot ≡ slot) }
     ensures same { (shape (means C.Code.coding L.Layout.slot L.Layout.column B.Bank.state B.Bank.meaning) volume.new) ≡ (shape (means C.Code.coding L.Layout.slot L.Layout.column B.Bank.state B.Bank.meaning) volume.old) }
     ensures makes { Makes (shape (means C.Code.coding L.Layout.slot L.Layout.column B.Bank.state B.Bank.meaning) volume.old) (state (means C.Code.coding L.Layout.slot L.Layout.column B.Bank.state B.Bank.meaning) volume.old) (opens slot) (answered order_for (ordered result)) (state (means C.Code.coding L.Layout.slot L.Layout.column B.Bank.state B.Bank.meaning) volume.new) }
-    ensures goes { Goes_on (shape (means C.Code.coding L.Layout.slot L.Layout.column B.Bank.state B.Bank.meaning) volume.old) (state (means C.Code.coding L.Layout.slot L.Layout.column B.Bank.state B.Bank.meaning) volume.old) (event (opens slot) (answered order_for (ordered result))) (state (means C.Code.coding L.Layout.slot L.Layout.column B.Bank.state B.Bank.meaning) volume.new) }
+    ensures goes { GoesOn (shape (means C.Code.coding L.Layout.slot L.Layout.column B.Bank.state B.Bank.meaning) volume.old) (state (means C.Code.coding L.Layout.slot L.Layout.column B.Bank.state B.Bank.meaning) volume.old) (event (opens slot) (answered order_for (ordered result))) (state (means C.Code.coding L.Layout.slot L.Layout.column B.Bank.state B.Bank.meaning) volume.new) }
 {
     volume.open(slot)
 }
@@ -101,7 +101,7 @@ pub fn step<C: Code, L: Layout, B: Bank>(
     ensures same { (shape (means C.Code.coding L.Layout.slot L.Layout.column B.Bank.state B.Bank.meaning) volume.new) ≡ (shape (means C.Code.coding L.Layout.slot L.Layout.column B.Bank.state B.Bank.meaning) volume.old) }
     ensures makes { Roomy (shape (means C.Code.coding L.Layout.slot L.Layout.column B.Bank.state B.Bank.meaning) volume.old) (state (means C.Code.coding L.Layout.slot L.Layout.column B.Bank.state B.Bank.meaning) volume.old).members → Makes (shape (means C.Code.coding L.Layout.slot L.Layout.column B.Bank.state B.Bank.meaning) volume.old) (state (means C.Code.coding L.Layout.slot L.Layout.column B.Bank.state B.Bank.meaning) volume.old) (steps order.now.slot) (answered number (outcome result)) (state (means C.Code.coding L.Layout.slot L.Layout.column B.Bank.state B.Bank.meaning) volume.new) }
     ensures fault { Roomy (shape (means C.Code.coding L.Layout.slot L.Layout.column B.Bank.state B.Bank.meaning) volume.old) (state (means C.Code.coding L.Layout.slot L.Layout.column B.Bank.state B.Bank.meaning) volume.old).members → fault_of result ≡ step_fault (shape (means C.Code.coding L.Layout.slot L.Layout.column B.Bank.state B.Bank.meaning) volume.old) (state (means C.Code.coding L.Layout.slot L.Layout.column B.Bank.state B.Bank.meaning) volume.old).members (state (means C.Code.coding L.Layout.slot L.Layout.column B.Bank.state B.Bank.meaning) volume.old).records order.now.slot }
-    ensures goes { Goes_on (shape (means C.Code.coding L.Layout.slot L.Layout.column B.Bank.state B.Bank.meaning) volume.old) (state (means C.Code.coding L.Layout.slot L.Layout.column B.Bank.state B.Bank.meaning) volume.old) (event (steps order.now.slot) (answered number (outcome result))) (state (means C.Code.coding L.Layout.slot L.Layout.column B.Bank.state B.Bank.meaning) volume.new) }
+    ensures goes { GoesOn (shape (means C.Code.coding L.Layout.slot L.Layout.column B.Bank.state B.Bank.meaning) volume.old) (state (means C.Code.coding L.Layout.slot L.Layout.column B.Bank.state B.Bank.meaning) volume.old) (event (steps order.now.slot) (answered number (outcome result))) (state (means C.Code.coding L.Layout.slot L.Layout.column B.Bank.state B.Bank.meaning) volume.new) }
 {
     volume.step(order)
 }
@@ -113,7 +113,7 @@ pub fn close<C: Code, L: Layout, B: Bank>(
 ) -> Result<usize, Refusal>
     ensures same { (shape (means C.Code.coding L.Layout.slot L.Layout.column B.Bank.state B.Bank.meaning) volume.new) ≡ (shape (means C.Code.coding L.Layout.slot L.Layout.column B.Bank.state B.Bank.meaning) volume.old) }
     ensures makes { Makes (shape (means C.Code.coding L.Layout.slot L.Layout.column B.Bank.state B.Bank.meaning) volume.old) (state (means C.Code.coding L.Layout.slot L.Layout.column B.Bank.state B.Bank.meaning) volume.old) (closes order.slot) (answered number (outcome result)) (state (means C.Code.coding L.Layout.slot L.Layout.column B.Bank.state B.Bank.meaning) volume.new) }
-    ensures goes { Goes_on (shape (means C.Code.coding L.Layout.slot L.Layout.column B.Bank.state B.Bank.meaning) volume.old) (state (means C.Code.coding L.Layout.slot L.Layout.column B.Bank.state B.Bank.meaning) volume.old) (event (closes order.slot) (answered number (outcome result))) (state (means C.Code.coding L.Layout.slot L.Layout.column B.Bank.state B.Bank.meaning) volume.new) }
+    ensures goes { GoesOn (shape (means C.Code.coding L.Layout.slot L.Layout.column B.Bank.state B.Bank.meaning) volume.old) (state (means C.Code.coding L.Layout.slot L.Layout.column B.Bank.state B.Bank.meaning) volume.old) (event (closes order.slot) (answered number (outcome result))) (state (means C.Code.coding L.Layout.slot L.Layout.column B.Bank.state B.Bank.meaning) volume.new) }
 {
     volume.close(order)
 }
@@ -121,7 +121,7 @@ pub fn close<C: Code, L: Layout, B: Bank>(
 // How many more slots may be lost.
 pub fn margin<C: Code, L: Layout, B: Bank>(volume: &Volume<C, L, B>) -> usize
     ensures makes { Makes (shape (means C.Code.coding L.Layout.slot L.Layout.column B.Bank.state B.Bank.meaning) volume.now) (state (means C.Code.coding L.Layout.slot L.Layout.column B.Bank.state B.Bank.meaning) volume.now) asks (number result) (state (means C.Code.coding L.Layout.slot L.Layout.column B.Bank.state B.Bank.meaning) volume.now) }
-    ensures goes { Goes_on (shape (means C.Code.coding L.Layout.slot L.Layout.column B.Bank.state B.Bank.meaning) volume.now) (state (means C.Code.coding L.Layout.slot L.Layout.column B.Bank.state B.Bank.meaning) volume.now) (event asks (number result)) (state (means C.Code.coding L.Layout.slot L.Layout.column B.Bank.state B.Bank.meaning) volume.now) }
+    ensures goes { GoesOn (shape (means C.Code.coding L.Layout.slot L.Layout.column B.Bank.state B.Bank.meaning) volume.now) (state (means C.Code.coding L.Layout.slot L.Layout.column B.Bank.state B.Bank.meaning) volume.now) (event asks (number result)) (state (means C.Code.coding L.Layout.slot L.Layout.column B.Bank.state B.Bank.meaning) volume.now) }
 {
     volume.margin()
 }

@@ -7,7 +7,7 @@ use Rattle.history.specs.Calls.Answer.{number}
 use Rattle.history.specs.Calls.Call.{close}
 use Rattle.volume.specs.declared.volume.rebuilds.Order.{Order}
 use Rattle.volume.specs.Volumes.{means, shape}
-use Rattle.runs.specs.Told.{state, slot_at, event, answer_of, Goes_on}
+use Rattle.runs.specs.Told.{state, slot_at, event, answer_of, GoesOn}
 use Rattle.runs.proofs.Going.{recorded}
 use Rattle.runs.proofs.close_by.Goals as goal
 
@@ -26,7 +26,7 @@ returns g c =
     record {
       same = c.close.ensures.same;
       goes = recorded (shape m v) (state m v) (state m w) (close (slot_at os k)) (answer_of c.number.result) _ c.number.ensures.value
-          (subst (λ (o : Order). Goes_on (shape m v) (state m v) (event (close o.slot) (answered number (outcome c.close.result))) (state m w)) (sym at) c.close.ensures.goes);
+          (subst (λ (o : Order). GoesOn (shape m v) (state m v) (event (close o.slot) (answered number (outcome c.close.result))) (state m w)) (sym at) c.close.ensures.goes);
       made = c.number.ensures.some ∙ sym (ap not here);
       orders = c.remove.ensures.items ∙ sym (cond-true _ _ _ here);
       len = (let l = c.remove.ensures.len in omega arith);

@@ -6,7 +6,7 @@ use Rattle.history.specs.Calls.Call.{write, scrub}
 use Rattle.runs.proofs.Going.{recorded}
 use Rattle.volume.specs.Volumes.{means, shape}
 use Rattle.runs.specs.declared.Call.{Call}
-use Rattle.runs.specs.Told.{state, event, event_of, answer_of, orders_after, lacks, Goes_on}
+use Rattle.runs.specs.Told.{state, event, event_of, answer_of, orders_after, lacks, GoesOn}
 use Rattle.runs.proofs.obey.Goals as goal
 
 pub returns-in-Open : goal.returns-in-Open
@@ -18,7 +18,7 @@ returns-in-Open g c =
     let e = c.open_slot.ensures in
     record {
       same = e.same;
-      goes = subst (λ (q : Call). Goes_on (shape m v) (state m v) (event_of os q r) (state m c.open_slot.new.volume)) (sym c.in-Open.is) e.goes;
+      goes = subst (λ (q : Call). GoesOn (shape m v) (state m v) (event_of os q r) (state m c.open_slot.new.volume)) (sym c.in-Open.is) e.goes;
       made = e.made ∙ ap (lacks os) (sym c.in-Open.is);
       orders = e.orders ∙ ap (λ (q : Call). orders_after os q r) (sym c.in-Open.is);
       len = e.len;
@@ -34,7 +34,7 @@ returns-in-Close g c =
     let e = c.close_by.ensures in
     record {
       same = e.same;
-      goes = subst (λ (q : Call). Goes_on (shape m v) (state m v) (event_of os q r) (state m c.close_by.new.volume)) (sym c.in-Close.is) e.goes;
+      goes = subst (λ (q : Call). GoesOn (shape m v) (state m v) (event_of os q r) (state m c.close_by.new.volume)) (sym c.in-Close.is) e.goes;
       made = e.made ∙ ap (lacks os) (sym c.in-Close.is);
       orders = e.orders ∙ ap (λ (q : Call). orders_after os q r) (sym c.in-Close.is);
       len = e.len;
@@ -50,7 +50,7 @@ returns-in-Read g c =
     let e = c.read_into.ensures in
     record {
       same = e.same;
-      goes = subst (λ (q : Call). Goes_on (shape m v) (state m v) (event_of os q r) (state m c.read_into.new.volume)) (sym c.in-Read.is) e.goes;
+      goes = subst (λ (q : Call). GoesOn (shape m v) (state m v) (event_of os q r) (state m c.read_into.new.volume)) (sym c.in-Read.is) e.goes;
       made = e.made ∙ ap (lacks os) (sym c.in-Read.is);
       orders = ap (λ (q : Call). orders_after os q r) (sym c.in-Read.is);
       len = omega arith;
@@ -66,7 +66,7 @@ returns-in-Step g c =
     let e = c.step_by.ensures in
     record {
       same = e.same;
-      goes = subst (λ (q : Call). Goes_on (shape m v) (state m v) (event_of os q r) (state m c.step_by.new.volume)) (sym c.in-Step.is) e.goes;
+      goes = subst (λ (q : Call). GoesOn (shape m v) (state m v) (event_of os q r) (state m c.step_by.new.volume)) (sym c.in-Step.is) e.goes;
       made = e.made ∙ ap (lacks os) (sym c.in-Step.is);
       orders = ap (λ (q : Call). orders_after os q r) (sym c.in-Step.is);
       len = omega arith;
@@ -82,8 +82,8 @@ returns-in-Write g c =
     let w = c.write.new.volume in
     record {
       same = c.write.ensures.same;
-      goes = subst (λ (q : Call). Goes_on (shape m v) (state m v) (event_of os q r) (state m w)) (sym c.in-Write.is)
-          (recorded (shape m v) (state m v) (state m w) (write c.in-Write.block (vec_items c.in-Write.bytes)) (answer_of r) _ c.number.ensures.value (subst (λ (b : List ℕ). Goes_on (shape m v) (state m v) (event (write c.in-Write.block b) (answered number (outcome c.write.result))) (state m w)) c.deref.ensures.value c.write.ensures.goes));
+      goes = subst (λ (q : Call). GoesOn (shape m v) (state m v) (event_of os q r) (state m w)) (sym c.in-Write.is)
+          (recorded (shape m v) (state m v) (state m w) (write c.in-Write.block (vec_items c.in-Write.bytes)) (answer_of r) _ c.number.ensures.value (subst (λ (b : List ℕ). GoesOn (shape m v) (state m v) (event (write c.in-Write.block b) (answered number (outcome c.write.result))) (state m w)) c.deref.ensures.value c.write.ensures.goes));
       made = c.number.ensures.some ∙ ap (lacks os) (sym c.in-Write.is);
       orders = ap (λ (q : Call). orders_after os q r) (sym c.in-Write.is);
       len = omega arith;
@@ -99,7 +99,7 @@ returns-in-Scrub g c =
     let w = c.scrub.new.volume in
     record {
       same = c.scrub.ensures.same;
-      goes = subst (λ (q : Call). Goes_on (shape m v) (state m v) (event_of os q r) (state m w)) (sym c.in-Scrub.is)
+      goes = subst (λ (q : Call). GoesOn (shape m v) (state m v) (event_of os q r) (state m w)) (sym c.in-Scrub.is)
           (recorded (shape m v) (state m v) (state m w) (scrub c.in-Scrub.stripe) (answer_of r) _ c.counts.ensures.value c.scrub.ensures.goes);
       made = c.counts.ensures.some ∙ ap (lacks os) (sym c.in-Scrub.is);
       orders = ap (λ (q : Call). orders_after os q r) (sym c.in-Scrub.is);

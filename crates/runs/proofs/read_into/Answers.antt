@@ -8,7 +8,7 @@ use Rattle.history.specs.Calls.Call.{read}
 use Rattle.history.specs.Calls.Answer.{done, bytes}
 use Rattle.volume.specs.Slots.{members_of}
 use Rattle.volume.specs.Volumes.{means, shape}
-use Rattle.runs.specs.Told.{state, event_with, Goes_on}
+use Rattle.runs.specs.Told.{state, event_with, GoesOn}
 use Rattle.runs.proofs.Going.{shape_same, records_same, no_bytes, goes}
 use Rattle.runs.proofs.read_into.Goals as goal
 
@@ -23,7 +23,7 @@ returns-then-len-ne-BLOCK g c =
     record {
       made = c.nothing.ensures.some;
       same = shape_same m v w k.code k.layout k.size;
-      goes = subst (λ (rs : List calls.Answer). Goes_on (shape m v) (state m v) (event_with (read a c.args.len) rs) (state m w)) (sym c.nothing.ensures.value)
+      goes = subst (λ (rs : List calls.Answer). GoesOn (shape m v) (state m v) (event_with (read a c.args.len) rs) (state m w)) (sym c.nothing.ensures.value)
           (goes (shape m v) (state m v) (state m w) (read a c.args.len) _ (no_bytes _ refl) (λ room. record {
             answer = ap (answered (λ _. done)) c.read.ensures.answered ∙ sym (ap (answered (λ _. bytes found)) (cond-false _ _ _ (ne_eqb c.args.len 512 c.if-len-ne-BLOCK.true)));
             changes = (ap members_of c.read.ensures.same, records_same m v w k.table);

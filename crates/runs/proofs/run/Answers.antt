@@ -6,7 +6,7 @@ use Rattle.volume.specs.declared.volume.rebuilds.Order.{Order}
 use Rattle.volume.specs.Volumes.{means, shape}
 use Rattle.runs.specs.declared.Call.{Call}
 use Rattle.runs.specs.declared.Answer.{Answer}
-use Rattle.runs.specs.Told.{state, event_of, events, orders_after, orders_left, lacks, AllMade, Goes_on}
+use Rattle.runs.specs.Told.{state, event_of, events, orders_after, orders_left, lacks, AllMade, GoesOn}
 use Rattle.runs.proofs.Logged.{orders_push, events_push, all_made_push, goes_nowhere, goes_further}
 use Rattle.runs.proofs.run.Goals as goal
 
@@ -44,14 +44,14 @@ loop-call-preserved g c =
     let left : orders_left os (take (n + 1) cs) (vec_items c.push_reserved.new.self) ≡ orders_after (vec_items c.loop-call.orders) call answer =
     ap₂ (orders_left os) more p ∙ orders_push os (take n cs) rs call answer len ∙ ap (λ (l : List Order). orders_after l call answer) (sym i.6) in
     let long = length_push rs answer in
-    let goes : Goes_on V (state m v) (event_of (vec_items c.loop-call.orders) call answer) (state m w) =
-    subst (λ (W : Shape). Goes_on W (state m v) (event_of (vec_items c.loop-call.orders) call answer) (state m w)) i.4 x.goes in (
+    let goes : GoesOn V (state m v) (event_of (vec_items c.loop-call.orders) call answer) (state m w) =
+    subst (λ (W : Shape). GoesOn W (state m v) (event_of (vec_items c.loop-call.orders) call answer) (state m w)) i.4 x.goes in (
       omega (arith, c.push_reserved.ensures.len, i.0),
       ap length p ∙ long ∙ ap (λ (y : ℕ). y + 1) i.1,
       omega (arith, c.push_reserved.ensures.capacity, i.2),
       omega (arith, x.len, x.capacity, i.3),
       x.same ∙ i.4,
-      subst (λ (l : List Event). Goes_on V (state m c.args.volume.now) l (state m w)) (sym all) (goes_further V (state m c.args.volume.now) (state m v) (state m w) _ _ i.5 goes),
+      subst (λ (l : List Event). GoesOn V (state m c.args.volume.now) l (state m w)) (sym all) (goes_further V (state m c.args.volume.now) (state m v) (state m w) _ _ i.5 goes),
       x.orders ∙ sym left,
       subst (λ (l : List Call). AllMade os l (vec_items c.push_reserved.new.self)) (sym more)
           (subst (λ (l : List Answer). AllMade os (take n cs ++ call ∷ []) l) (sym p)
@@ -73,7 +73,7 @@ returns g c =
     record {
       same = i.4;
       each = omega (arith, i.1, h, k);
-      promise = subst (λ (l : List Order). Goes_on (shape m v) (state m v) (events l cs rs) (state m w)) os (subst (λ (l : List Call). Goes_on (shape m v) (state m v) (events (vec_items c.reserve.new.self) l rs) (state m w)) all i.5);
+      promise = subst (λ (l : List Order). GoesOn (shape m v) (state m v) (events l cs rs) (state m w)) os (subst (λ (l : List Call). GoesOn (shape m v) (state m v) (events (vec_items c.reserve.new.self) l rs) (state m w)) all i.5);
       orders = i.6 ∙ ap₂ (λ (l : List Order) (q : List Call). orders_left l q rs) os all;
       all = subst (λ (l : List Order). AllMade l cs rs) os (subst (λ (l : List Call). AllMade (vec_items c.reserve.new.self) l rs) all i.7);
       unchanged = tt;

@@ -5,7 +5,7 @@ use Rattle.history.specs.Calls.Answer.{number}
 use Rattle.history.specs.Calls.Call.{step}
 use Rattle.volume.specs.declared.volume.rebuilds.Order.{Order}
 use Rattle.volume.specs.Volumes.{means, shape}
-use Rattle.runs.specs.Told.{state, slot_at, event, answer_of, Goes_on}
+use Rattle.runs.specs.Told.{state, slot_at, event, answer_of, GoesOn}
 use Rattle.runs.proofs.Going.{recorded}
 use Rattle.runs.proofs.step_by.Goals as goal
 
@@ -23,6 +23,6 @@ returns g c =
     record {
       same = c.step.ensures.same;
       goes = recorded (shape m v) (state m v) (state m w) (step (slot_at os k)) (answer_of c.number.result) _ c.number.ensures.value
-          (subst (λ (o : Order). Goes_on (shape m v) (state m v) (event (step o.slot) (answered number (outcome c.step.result))) (state m w)) (sym at) c.step.ensures.goes);
+          (subst (λ (o : Order). GoesOn (shape m v) (state m v) (event (step o.slot) (answered number (outcome c.step.result))) (state m w)) (sym at) c.step.ensures.goes);
       made = c.number.ensures.some ∙ sym (ap not here);
     }
