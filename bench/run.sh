@@ -1,29 +1,31 @@
 #!/usr/bin/env bash
-# Speed beside plain C: builds the proved static library with the functions that the harness calls, compiles the harness, and prints the
+# Speed beside plain C: builds a proved static library with the functions that the harness calls, compiles the harness, and prints the
 # tables. Not part of the gate. What is exported for it stands in bench/speed.txt and becomes a crate in a copy of the repository, which is
-# removed in the end. With a target/ folder at hand what is proved there is taken over; without one all is proved first.
+# removed in the end. What this machine has proved before is taken over; without that all is proved first.
 set -euo pipefail
 cd "$(dirname "$0")/.."
 began=$SECONDS
-kit=$(dirname "$(dirname "$(rt doc)")")
+kit=$(dirname "$(rt doc)")
 copy=$(mktemp -d)
 trap 'rm -rf "$copy"' EXIT
-cp -R crates.txt crates "$copy"
-if [ -d target ]; then cp -R target "$copy"; fi
+cp crates.txt "$copy" && tar -c --exclude=out crates | tar -x -C "$copy"
 mkdir -p "$copy/crates/speed/src"
 cp bench/speed.txt "$copy/crates/speed/src/lib.rt"
-echo 'speed: code galois diagonal recovery layout shelf bank volume' >> "$copy/crates.txt"
+echo 'speed staticlib: code galois diagonal recovery layout member shelf bank contents volume' >> "$copy/crates.txt"
 
-# build NAME WORDS..: runs rt on the copy, and says what it said where it fails
+# build NAME WORDS..: runs rt in the crate's folder in the copy, and says what it said where it fails
 build() {
-    if ! (cd "$copy" && rt "$@") > "$copy/said" 2>&1; then
+    local name=$1
+    shift
+    if ! (cd "$copy/crates/$name" && rt "$@") > "$copy/said" 2>&1 < /dev/null; then
         tail -n 30 "$copy/said"
-        echo "bench: rt $* failed"
+        echo "bench: rt $* failed in $name"
         exit 1
     fi
 }
-build staticlib speed
-build check replay
+build speed lib
+build replay run
+replay=$copy/crates/replay/out/replay
 
 # The peers that are installed.
 words=()
@@ -37,7 +39,7 @@ if echo '#include <jerasure/reed_sol.h>' | gcc -E -x c - > /dev/null 2>&1; then
 else
     echo 'jerasure is not installed (libjerasure-dev): its rows are left out'
 fi
-gcc -O3 -Wall -o "$copy/harness" bench/harness.c "$copy/target/staticlib/libspeed.a" "$kit/lib/librattle_c.a" "${words[@]}"
+gcc -O3 -Wall -o "$copy/harness" bench/harness.c "$copy/crates/speed/out/libspeed.a" "$kit/c/libos_c.a" "$kit/c/liblibc_c.a" "${words[@]}"
 
 echo "On $(nproc) processors, $(sed -n 's/^model name[^:]*: //p' /proc/cpuinfo | head -n 1), $(gcc --version | head -n 1)"
 echo
@@ -52,7 +54,7 @@ script() {
 }
 script 0 > "$copy/empty"
 script 1000 > "$copy/thousand"
-[ "$("$copy/target/bin/replay" < "$copy/thousand" | awk '$3 == 0' | wc -l)" = 1000 ] || {
+[ "$("$replay" < "$copy/thousand" | awk '$3 == 0' | wc -l)" = 1000 ] || {
     echo 'WRONG: the script of 1,000 operations is not answered whole'
     exit 1
 }
@@ -60,7 +62,7 @@ script 1000 > "$copy/thousand"
 # runs FILE: microseconds of 200 runs of replay
 runs() {
     local from=${EPOCHREALTIME/./} i
-    for ((i = 0; i < 200; i++)); do "$copy/target/bin/replay" < "$1" > /dev/null; done
+    for ((i = 0; i < 200; i++)); do "$replay" < "$1" > /dev/null; done
     echo $((${EPOCHREALTIME/./} - from))
 }
 # The least of seven rounds of each, in turn.
