@@ -18,9 +18,6 @@ pub mod rdp;
 // Room for the rows of a block and one row more: a row is at most a block.
 const CLOSED: usize = 2 * BLOCK;
 
-// How many bytes a row has over the prime 17.
-const USUAL_WIDTH: usize = 32;
-
 // A block as `prime - 1` rows of `width` bytes, all rows counted modulo `prime`; row `prime - 1` is zeros and lies in no block.
 #[derive(Clone, Copy)]
 struct Grid {
@@ -67,22 +64,7 @@ impl Grid {
         ensures after { block.new ≡ paste block.old (k * self.now.width) row.now self.now.width }
     {
         let at = k * self.width;
-        if self.width == USUAL_WIDTH {
-            block[at..at + USUAL_WIDTH].copy_from_slice(row);
-        } else {
-            block[at..at + self.width].copy_from_slice(row);
-        }
-    }
-
-    // Adds `row` to the first bytes of `into`. A row of 32 bytes is added by a call of its own, so that the compiler knows its length.
-    fn add_row(&self, row: &[u8], into: &mut [u8])
-        ensures after { into.new ≡ onto into.old row.now }
-    {
-        if row.len() == USUAL_WIDTH {
-            xor_run(&row[0..USUAL_WIDTH], into);
-        } else {
-            xor_run(row, into);
-        }
+        block[at..at + self.width].copy_from_slice(row);
     }
 
     // Adds to `into` the block whose row r is row r + s of `block`.
@@ -133,7 +115,7 @@ impl Grid {
         ensures after { into.new ≡ onto into.old (row_sums self.now.width block.now (self.now.prime - 1)) }
     {
         for r in 0..self.prime - 1 {
-            self.add_row(self.row(r, block), into);
+            xor_run(self.row(r, block), into);
         }
     }
 
@@ -178,7 +160,7 @@ impl Grid {
         let mut k = self.prime - 1;
         let mut r = self.fold(self.prime - 1 + (self.prime - u));
         for _m in 0..self.prime - 1 {
-            self.add_row(self.row(r, &given), &mut sum);
+            xor_run(self.row(r, &given), &mut sum);
             k = self.fold(k + step);
             r = self.fold(r + step);
             self.put_row(k, self.row(0, &sum), buffer);

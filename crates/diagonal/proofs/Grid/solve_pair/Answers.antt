@@ -32,22 +32,22 @@ overflow_add-r c =
     omega (arith, (sizes_of g).low, c.loop-m.invariant.stride.low, low_r c.loop-m.invariant)
 
 pub row-requires-in-loop-m : goal.row-requires-in-loop-m
-row-requires-in-loop-m c = record { within = omega (arith, (sizes_of c.args.self.now).short, c.add_row.auto.into, c.loop-m.invariant.room) }
+row-requires-in-loop-m c = record { within = omega (arith, (sizes_of c.args.self.now).short, c.xor_run.auto.into, c.loop-m.invariant.room) }
 
 pub put_row-requires : goal.put_row-requires
 put_row-requires c =
     let g = c.args.self.now in
     record {
-      sized = length_row g.width 0 c.add_row.new.into c.row-in-loop-m.result.now (omega (arith, (sizes_of g).short, c.add_row.auto.into, c.loop-m.invariant.room)) c.row-in-loop-m.ensures.value;
+      sized = length_row g.width 0 c.xor_run.new.into c.row-in-loop-m.result.now (omega (arith, (sizes_of g).short, c.xor_run.auto.into, c.loop-m.invariant.room)) c.row-in-loop-m.ensures.value;
       within = omega (arith, (sizes_of g).within c.fold-k.result (next_within (sizes_of g) c.loop-m.invariant c.loop-m-test.true c.fold-k.ensures.value), c.loop-m.invariant.long);
     }
 
 pub loop-m-preserved : goal.loop-m-preserved
 loop-m-preserved c =
     let g = c.args.self.now in
-    walked_more (sizes_of g) c.loop-m.invariant c.loop-m-test.true c.fold-k.ensures.value c.close-given.result c.row.result.now c.add_row.new.into
+    walked_more (sizes_of g) c.loop-m.invariant c.loop-m-test.true c.fold-k.ensures.value c.close-given.result c.row.result.now c.xor_run.new.into
     c.close-given.ensures.cells (omega (arith, (sizes_of g).run c.loop-m.r (low_r c.loop-m.invariant), (sizes_of g).short, c.close-given.ensures.long)) c.fold-r-in-loop-m.ensures.value
-    c.row.ensures.value c.add_row.ensures.after c.row-in-loop-m.ensures.value c.put_row.ensures.after
+    c.row.ensures.value c.xor_run.ensures.after c.row-in-loop-m.ensures.value c.put_row.ensures.after
 
 pub returns : goal.returns
 returns c =

@@ -11,5 +11,5 @@ loop-r-init c = sums_none c.args.self.now.width c.args.block.now c.args.into.now
 
 pub loop-r-preserved : goal.loop-r-preserved
 loop-r-preserved c =
-    sums_more c.args.self.now.width c.args.block.now c.loop-r.r c.args.into.now c.loop-r.into c.row.result.now c.add_row.new.into
-    (omega (arith, (sizes_of c.args.self.now).within c.loop-r.r c.loop-r-test.true)) c.loop-r.invariant c.row.ensures.value c.add_row.ensures.after
+    sums_more c.args.self.now.width c.args.block.now c.loop-r.r c.args.into.now c.loop-r.into c.row.result.now c.xor_run.new.into
+    (omega (arith, (sizes_of c.args.self.now).within c.loop-r.r c.loop-r-test.true)) c.loop-r.invariant c.row.ensures.value c.xor_run.ensures.after
