@@ -3,12 +3,14 @@ ghost use Rattle.std.specs.Prelude.{◌≡◌, ◌&&◌, is_ok, if◌then◌else
 ghost use Rattle.code.specs.Blocks.{◌⊕◌, onto};
 ghost use Rattle.code.specs.Answers.{answer, sized, on_buffers};
 
-use crate::{BLOCK, CodeRefusal};
+use crate::CodeRefusal;
+use crate::checks::check_block;
 
 // Adds the bytes of `from` to the first bytes of `into`; where either is longer, its further bytes play no part.
 pub fn xor_run(from: &[u8], into: &mut [u8])
     ensures after { into.new ≡ onto into.old from.now }
 {
+    // By index: once `into.iter_mut().zip(from)` is over, a proof knows nothing of the bytes that it wrote (tried).
     let n = into.len().min(from.len());
     for i in 0..n {
         into[i] ^= from[i];
@@ -20,9 +22,8 @@ pub fn xor_into(block: &[u8], into: &mut [u8]) -> Result<(), CodeRefusal>
     ensures answered { answer result ≡ on_buffers (sized block.now && sized into.old) }
     ensures after { into.new ≡ (if is_ok result then (into.old ⊕ block.now) else into.old) }
 {
-    if block.len() != BLOCK || into.len() != BLOCK {
-        return Err(CodeRefusal::Length);
-    }
+    check_block(block)?;
+    check_block(into)?;
     xor_run(block, into);
     Ok(())
 }
