@@ -7,6 +7,7 @@ ghost use Rattle.prime.proofs.Laws.{evenodd_lawful};
 ghost use Rattle.diagonal.specs.Facts.{sizes_of};
 
 use crate::Grid;
+use code::checks::{check_block, check_column, check_pair};
 use code::{BLOCK, Code, CodeRefusal};
 
 // EVENODD over a prime, for as many data columns as the prime.
@@ -41,12 +42,9 @@ impl Code for EvenOdd {
 
     // Adds the block shifted by column `j`, and to every row the adjuster, its row on the missing diagonal.
     fn mix_into(&self, j: usize, block: &[u8], into: &mut [u8]) -> Result<(), CodeRefusal> {
-        if block.len() != BLOCK || into.len() != BLOCK {
-            return Err(CodeRefusal::Length);
-        }
-        if j >= self.limit() {
-            return Err(CodeRefusal::Column);
-        }
+        check_block(block)?;
+        check_block(into)?;
+        check_column(self.limit(), j)?;
         let grid = self.grid;
         grid.add_shifted(grid.fold(grid.prime - j), block, into);
         grid.add_row_everywhere(grid.prime - 1 - j, block, into);
@@ -55,12 +53,8 @@ impl Code for EvenOdd {
 
     // Shifts back; the row that then stands at row `prime - 1`, which is to be zeros, is the adjuster.
     fn unmix(&self, j: usize, buffer: &mut [u8]) -> Result<(), CodeRefusal> {
-        if buffer.len() != BLOCK {
-            return Err(CodeRefusal::Length);
-        }
-        if j >= self.limit() {
-            return Err(CodeRefusal::Column);
-        }
+        check_block(buffer)?;
+        check_column(self.limit(), j)?;
         let grid = self.grid;
         let mut solved = [0u8; BLOCK];
         grid.add_shifted(j, buffer, &mut solved);
@@ -71,12 +65,8 @@ impl Code for EvenOdd {
 
     // Takes the adjuster of both columns off, then solves their shifts.
     fn unpair(&self, i: usize, j: usize, buffer: &mut [u8]) -> Result<(), CodeRefusal> {
-        if buffer.len() != BLOCK {
-            return Err(CodeRefusal::Length);
-        }
-        if i >= self.limit() || j >= self.limit() || i == j {
-            return Err(CodeRefusal::Column);
-        }
+        check_block(buffer)?;
+        check_pair(self.limit(), i, j)?;
         let grid = self.grid;
         grid.unadjust(buffer);
         grid.solve_pair(grid.prime - i, grid.prime - j, buffer);

@@ -7,7 +7,8 @@ ghost use Rattle.prime.proofs.Laws.{rdp_lawful};
 ghost use Rattle.diagonal.specs.Facts.{sizes_of};
 
 use crate::Grid;
-use code::{BLOCK, Code, CodeRefusal};
+use code::checks::{check_block, check_column, check_pair};
+use code::{Code, CodeRefusal};
 
 // Row-diagonal parity over a prime, for one data column less than the prime.
 #[derive(Clone, Copy)]
@@ -41,12 +42,9 @@ impl Code for Rdp {
 
     // Adds the block shifted by column `j`, and the block shifted by one row, its share of the diagonals through P.
     fn mix_into(&self, j: usize, block: &[u8], into: &mut [u8]) -> Result<(), CodeRefusal> {
-        if block.len() != BLOCK || into.len() != BLOCK {
-            return Err(CodeRefusal::Length);
-        }
-        if j >= self.limit() {
-            return Err(CodeRefusal::Column);
-        }
+        check_block(block)?;
+        check_block(into)?;
+        check_column(self.limit(), j)?;
         let grid = self.grid;
         grid.add_shifted(grid.fold(grid.prime - j), block, into);
         grid.add_shifted(1, block, into);
@@ -55,12 +53,8 @@ impl Code for Rdp {
 
     // Solves the column's shift and P's.
     fn unmix(&self, j: usize, buffer: &mut [u8]) -> Result<(), CodeRefusal> {
-        if buffer.len() != BLOCK {
-            return Err(CodeRefusal::Length);
-        }
-        if j >= self.limit() {
-            return Err(CodeRefusal::Column);
-        }
+        check_block(buffer)?;
+        check_column(self.limit(), j)?;
         let grid = self.grid;
         grid.solve_pair(grid.prime - j, 1, buffer);
         Ok(())
@@ -68,12 +62,8 @@ impl Code for Rdp {
 
     // Solves the shifts of both columns; P's shares of the two cancel.
     fn unpair(&self, i: usize, j: usize, buffer: &mut [u8]) -> Result<(), CodeRefusal> {
-        if buffer.len() != BLOCK {
-            return Err(CodeRefusal::Length);
-        }
-        if i >= self.limit() || j >= self.limit() || i == j {
-            return Err(CodeRefusal::Column);
-        }
+        check_block(buffer)?;
+        check_pair(self.limit(), i, j)?;
         let grid = self.grid;
         grid.solve_pair(grid.prime - i, grid.prime - j, buffer);
         Ok(())
