@@ -1,10 +1,8 @@
 // EVENODD: the diagonals run over the data columns alone, and the one that no row of Q stands for is added to all others.
-ghost use Rattle.std.specs.Prelude.{◌≡◌, ℕ};
-ghost use Rattle.std.proofs.Common.{subst};
-ghost use Rattle.prime.specs.Diagonals.{evenodd as even_odd, evenodd};
-ghost use Rattle.code.specs.Codes.{Lawful};
+ghost use Rattle.std.specs.Prelude.{◌≡◌};
+ghost use Rattle.prime.specs.Diagonals.{evenodd as even_odd};
 ghost use Rattle.prime.proofs.Laws.{evenodd_lawful};
-ghost use Rattle.diagonal.specs.Facts.{sizes_of};
+ghost use Rattle.diagonal.specs.Facts.{lawful_of, sizes_of};
 
 use crate::Grid;
 use code::checks::{check_block, check_column, check_pair};
@@ -23,7 +21,7 @@ impl EvenOdd {
         ensures width { result.grid.width ≡ 32 }
     {
         EvenOdd {
-            grid: Grid::new(17, 32),
+            grid: Grid::of_17(),
         }
     }
 }
@@ -33,7 +31,7 @@ impl Code for EvenOdd {
 
     ghost lawful = { λ c.
         let g = c.grid in
-        subst (λ (n : ℕ). Lawful n (evenodd g.prime g.width)) g.whole (evenodd_lawful g.prime g.indivisible g.width (sizes_of g).wide g.odd) };
+        lawful_of g (evenodd_lawful g.prime g.indivisible g.width (sizes_of g).wide g.odd) };
 
     // The prime.
     fn limit(&self) -> usize {

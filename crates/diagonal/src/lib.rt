@@ -40,6 +40,14 @@ impl Grid {
         Grid { prime, width }
     }
 
+    // The prime 17, with rows of 32 bytes.
+    fn of_17() -> Grid
+        ensures prime { result.prime ≡ 17 }
+        ensures width { result.width ≡ 32 }
+    {
+        Grid::new(17, 32)
+    }
+
     // Brings a row number below twice the prime back below the prime. No other place wraps a row number.
     fn fold(&self, x: usize) -> usize
         requires below { x < 2 * self.now.prime }
@@ -114,8 +122,8 @@ impl Grid {
         requires sized { length block.now ≡ 512 }
         ensures after { into.new ≡ onto into.old (row_sums self.now.width block.now (self.now.prime - 1)) }
     {
-        for r in 0..self.prime - 1 {
-            xor_run(self.row(r, block), into);
+        for row in block.chunks_exact(self.width) {
+            xor_run(row, into);
         }
     }
 

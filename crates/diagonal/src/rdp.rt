@@ -1,10 +1,8 @@
 // Row-diagonal parity: the diagonals run over the data columns and P.
-ghost use Rattle.std.specs.Prelude.{◌≡◌, ℕ};
-ghost use Rattle.std.proofs.Common.{subst};
-ghost use Rattle.prime.specs.Diagonals.{rdp as row_diagonal, rdp};
-ghost use Rattle.code.specs.Codes.{Lawful};
+ghost use Rattle.std.specs.Prelude.{◌≡◌};
+ghost use Rattle.prime.specs.Diagonals.{rdp as row_diagonal};
 ghost use Rattle.prime.proofs.Laws.{rdp_lawful};
-ghost use Rattle.diagonal.specs.Facts.{sizes_of};
+ghost use Rattle.diagonal.specs.Facts.{lawful_of, sizes_of};
 
 use crate::Grid;
 use code::checks::{check_block, check_column, check_pair};
@@ -23,7 +21,7 @@ impl Rdp {
         ensures width { result.grid.width ≡ 32 }
     {
         Rdp {
-            grid: Grid::new(17, 32),
+            grid: Grid::of_17(),
         }
     }
 }
@@ -33,7 +31,7 @@ impl Code for Rdp {
 
     ghost lawful = { λ c.
         let g = c.grid in
-        subst (λ (n : ℕ). Lawful n (rdp g.prime g.width)) g.whole (rdp_lawful g.prime g.indivisible g.width (sizes_of g).wide) };
+        lawful_of g (rdp_lawful g.prime g.indivisible g.width (sizes_of g).wide) };
 
     // One less than the prime.
     fn limit(&self) -> usize {

@@ -1,14 +1,16 @@
 -- A row repeated over a block, and the ⊕ of the rows of a block.
-use Rattle.std.proofs.Common.{◌≡◌, ℕ, zero, suc, ◌+◌, ◌-◌, ◌*◌, ◌%◌, ◌<◌, ◌≤◌, min, List, length, get_or, replicate, sym, refl, ap, ◌∙◌, inl, inr, mod-eq_of_lt, suc-mul, add-one, arith, rules}
+use Rattle.std.proofs.Common.{◌≡◌, ℕ, zero, suc, ◌+◌, ◌-◌, ◌*◌, ◌%◌, ◌<◌, ◌≤◌, min, List, ◌++◌, length, get_or, take, drop, replicate, sym, refl, ap, ◌∙◌, inl, inr, mod-eq_of_lt, zero-mul, suc-mul, add-one, arith, rules}
 use native.Mathlib.Nat.{mul-mod_left, mod_self}
 use lib.Bits.{bit_xor, xor_zero_r, xor_assoc}
 use Rattle.std.specs.List.{between}
 use lib.Seq.{paste}
-use Rattle.std.proofs.lemmas.List.{get_or_past, places}
+use Rattle.std.proofs.Math.Seq.{take-append_seam, drop-append_seam}
+use Rattle.std.proofs.lemmas.List.{get_or_past, places, drop-drop, drop-take, length-append, length-drop}
 use Rattle.std.proofs.lemmas.List.FromFn.{length-map-range_with_len, get_or-map-range_with_len}
 use Rattle.std.proofs.lemmas.List.Edits.{get_or-between, length-between, length-paste}
 use Rattle.std.proofs.lemmas.Nat.{mod-mul-add, mul-le}
-use Rattle.std.proofs.lemmas.Bool.{cases_lt}
+use Rattle.std.proofs.lemmas.Slice.{between_is}
+use Rattle.std.proofs.lemmas.Bool.{cases_lt, cases_order}
 use Rattle.code.specs.Blocks.{◌⊕◌, onto}
 use Rattle.code.proofs.Blocks.{length_onto, get_or_onto, onto_same, is_onto}
 use Rattle.prime.specs.Rows.{cell, rows, repeated, everywhere, sum_at, row_sums}
@@ -120,6 +122,46 @@ module _ (p w n : ℕ) (S : Sizes p w n) where
   pub no_row_everywhere : (r : ℕ) (b into : List ℕ) → length b ≡ n → length into ≡ n → p - 1 ≤ r → into ≡ into ⊕ everywhere p w r b
   no_row_everywhere r b into lb li h = is_add_rows p w n S into into (λ _ t. cell w b r t) li li (λ k t _ _.
       sym (ap (bit_xor (cell w into k t)) (get_or_past b (r * w + t) 0 (omega (arith, S.whole, S.top r h))) ∙ xor_zero_r (cell w into k t)))
+
+-- ---- the rows of b, cut off its front one after another: what is left, as a list, after k rows
+pub record Cut (w : ℕ) (b : List ℕ) (k : ℕ) (rest : List ℕ) : Type 0 where
+  pub left : rest ≡ drop (k * w) b
+  pub within : k * w ≤ length b
+
+pub uncut : (w : ℕ) (b : List ℕ) → Cut w b 0 b
+uncut w b = record { left = rw (zero-mul w); within = omega arith }
+
+module _ (w : ℕ) (b : List ℕ) (k : ℕ) (rest row after : List ℕ) (C : Cut w b k rest) (parts : rest ≡ row ++ after) (wide : length row ≡ w) where
+  front : drop (k * w) b ≡ row ++ after
+  front = sym C.left ∙ parts
+
+  pub cut_within : k * w + w ≤ length b
+  cut_within = omega (arith, C.within, length-drop (k * w) b, length-append row after, ap length front)
+
+  pub cut_row : row ≡ between (k * w) (k * w + w) b
+  cut_row =
+      sym (take-append_seam row after) ∙ ap (λ n. take n (row ++ after)) wide ∙ ap (take w) (sym front) ∙ sym (drop-take (k * w) w b)
+      ∙ sym (between_is b (k * w) (k * w + w))
+
+  pub cut_more : Cut w b (k + 1) after
+  cut_more = record {
+    left = sym (drop-append_seam row after) ∙ ap (λ n. drop n (row ++ after)) wide ∙ ap (drop w) (sym front) ∙ drop-drop w (k * w) b ∙ ap (λ n. drop n b) next;
+    within = omega (arith, cut_within, next);
+  }
+    where
+      next : k * w + w ≡ (k + 1) * w
+      next = sym (rw add-one (suc-mul k w))
+
+-- where less than a row is left, all p − 1 rows have been cut off
+pub cut_all : (p w n : ℕ) → Sizes p w n → (b : List ℕ) → length b ≡ n → (k : ℕ) (rest : List ℕ) → Cut w b k rest → length rest < w → k ≡ p - 1
+cut_all p w n S b lb k rest C few = elim (cases_order k (p - 1)) [
+  | inl e ↦ e
+  | inr (inl l) ↦ absurd (omega (arith, S.within k l, left))
+  | inr (inr l) ↦ absurd (omega (arith, S.top k (omega arith), S.whole, S.wide, C.within, mul-le (suc (p - 1)) w k w (omega arith) (omega arith), suc-mul (p - 1) w))
+]
+  where
+    left : length rest ≡ n - k * w
+    left = ap length C.left ∙ length-drop (k * w) b ∙ ap (λ m. m - k * w) lb
 
 -- ---- the ⊕ of the first rows
 module _ (w : ℕ) (b : List ℕ) where

@@ -8,11 +8,11 @@ pub solve_pair-requires : goal.solve_pair-requires
 solve_pair-requires c =
     let g = c.args.self.now.grid in
     record {
-      sized = c.unadjust.auto.buffer ∙ c.if-buffer-ne-BLOCK.false;
+      sized = c.unadjust.auto.buffer ∙ c.in_ok-check_block.ensures.long;
       some = omega arith;
       low = omega arith;
       other = omega arith;
-      apart = differ_pair g.prime g.indivisible c.args.i c.args.j (omega arith) (omega arith) c.if-i-j.false;
+      apart = differ_pair g.prime g.indivisible c.args.i c.args.j (omega (arith, c.in_ok-check_pair.ensures.first)) (omega (arith, c.in_ok-check_pair.ensures.second)) c.in_ok-check_pair.ensures.apart;
     }
 
 pub returns : goal.returns

@@ -10,5 +10,5 @@ solve_pair-requires c =
       some = omega arith;
       low = omega arith;
       other = omega arith;
-      apart = differ_pair g.prime g.indivisible c.args.i c.args.j (omega arith) (omega arith) c.if-i-j.false;
+      apart = differ_pair g.prime g.indivisible c.args.i c.args.j (omega (arith, c.in_ok-check_pair.ensures.first)) (omega (arith, c.in_ok-check_pair.ensures.second)) c.in_ok-check_pair.ensures.apart;
     }
