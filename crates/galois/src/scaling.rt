@@ -1,8 +1,10 @@
 // Blocks times an element of the field, by terms: a vector of bytes at a time, with no table and no branch.
 ghost use Rattle.std.specs.Prelude.{◌≡◌, map};
-ghost use Rattle.code.specs.Blocks.{onto};
+ghost use Rattle.code.specs.Blocks.{◌⊕◌};
 ghost use Rattle.field.specs.Field.{shifted, times};
 ghost use Rattle.field.specs.Terms.{shifts, summed};
+
+use code::BLOCK;
 
 // 2 times an element.
 fn doubled(a: u8) -> u8
@@ -37,19 +39,19 @@ fn scaled(t: &[u8; 8], b: u8) -> u8
     sum
 }
 
-// Adds `a` times the bytes of `block` to the first bytes of `into`; where either is longer, its further bytes play no part.
-pub(crate) fn add_scaled(a: u8, block: &[u8], into: &mut [u8])
-    ensures after { into.new ≡ onto into.old (map (times a) block.now) }
+// Adds `a` times the bytes of `block` to `into`.
+pub(crate) fn add_scaled(a: u8, block: &[u8; BLOCK], into: &mut [u8; BLOCK])
+    ensures after { into.new ≡ into.old ⊕ map (times a) block.now }
 {
     let t = terms(a);
-    let n = into.len().min(block.len());
-    for i in 0..n {
+    // By index: once `into.iter_mut().zip(block)` is over, a proof knows nothing of the bytes that it wrote (tried).
+    for i in 0..BLOCK {
         into[i] ^= scaled(&t, block[i]);
     }
 }
 
 // Multiplies each byte of `buffer` by `a`.
-pub(crate) fn scale(a: u8, buffer: &mut [u8])
+pub(crate) fn scale(a: u8, buffer: &mut [u8; BLOCK])
     ensures after { buffer.new ≡ map (times a) buffer.old }
 {
     let t = terms(a);
