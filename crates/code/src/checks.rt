@@ -1,20 +1,8 @@
-// What a call on blocks looks at before it does anything: first the length of each buffer, then its columns.
-ghost use Rattle.std.specs.Prelude.{◌≡◌, ◌≢◌, ◌<◌, true, length, OnOk};
-ghost use Rattle.code.specs.Answers.{answer, sized, on_buffers, on_column, on_pair};
+// What a call on blocks looks at after the lengths of its buffers: its columns.
+ghost use Rattle.std.specs.Prelude.{◌≡◌, ◌≢◌, ◌<◌, true, OnOk};
+ghost use Rattle.code.specs.Answers.{answer, on_column, on_pair};
 
-use crate::{BLOCK, CodeRefusal};
-
-// Refuses a buffer that is not a block's length.
-pub fn check_block(buffer: &[u8]) -> Result<(), CodeRefusal>
-    ensures answered { answer result ≡ on_buffers (sized buffer.now) }
-    ensures long { OnOk result (length buffer.now ≡ 512) }
-{
-    if buffer.len() == BLOCK {
-        Ok(())
-    } else {
-        Err(CodeRefusal::Length)
-    }
-}
+use crate::CodeRefusal;
 
 // Refuses a column that is not below the limit.
 pub fn check_column(limit: usize, j: usize) -> Result<(), CodeRefusal>

@@ -5,7 +5,7 @@ ghost use Rattle.prime.proofs.Laws.{evenodd_lawful};
 ghost use Rattle.diagonal.specs.Facts.{lawful_of, sizes_of};
 
 use crate::Grid;
-use code::checks::{check_block, check_column, check_pair};
+use code::checks::{check_column, check_pair};
 use code::{BLOCK, Code, CodeRefusal};
 
 // EVENODD over a prime, for as many data columns as the prime.
@@ -40,8 +40,8 @@ impl Code for EvenOdd {
 
     // Adds the block shifted by column `j`, and to every row the adjuster, its row on the missing diagonal.
     fn mix_into(&self, j: usize, block: &[u8], into: &mut [u8]) -> Result<(), CodeRefusal> {
-        check_block(block)?;
-        check_block(into)?;
+        let block = block.as_array::<BLOCK>().ok_or(CodeRefusal::Length)?;
+        let into = into.as_mut_array::<BLOCK>().ok_or(CodeRefusal::Length)?;
         check_column(self.limit(), j)?;
         let grid = self.grid;
         grid.add_shifted(grid.fold(grid.prime - j), block, into);
@@ -51,19 +51,19 @@ impl Code for EvenOdd {
 
     // Shifts back; the row that then stands at row `prime - 1`, which is to be zeros, is the adjuster.
     fn unmix(&self, j: usize, buffer: &mut [u8]) -> Result<(), CodeRefusal> {
-        check_block(buffer)?;
+        let buffer = buffer.as_mut_array::<BLOCK>().ok_or(CodeRefusal::Length)?;
         check_column(self.limit(), j)?;
         let grid = self.grid;
         let mut solved = [0u8; BLOCK];
         grid.add_shifted(j, buffer, &mut solved);
         grid.add_row_everywhere(grid.fold(grid.prime - 1 + j), buffer, &mut solved);
-        buffer.copy_from_slice(&solved);
+        *buffer = solved;
         Ok(())
     }
 
     // Takes the adjuster of both columns off, then solves their shifts.
     fn unpair(&self, i: usize, j: usize, buffer: &mut [u8]) -> Result<(), CodeRefusal> {
-        check_block(buffer)?;
+        let buffer = buffer.as_mut_array::<BLOCK>().ok_or(CodeRefusal::Length)?;
         check_pair(self.limit(), i, j)?;
         let grid = self.grid;
         grid.unadjust(buffer);

@@ -77,10 +77,8 @@ impl Grid {
 
     // Adds to `into` the block whose row r is row r + s of `block`.
     // Since the rows lie one after another, that is two long runs: from row s on to the start, and below row s - 1 to the end.
-    fn add_shifted(&self, s: usize, block: &[u8], into: &mut [u8])
+    fn add_shifted(&self, s: usize, block: &[u8; BLOCK], into: &mut [u8; BLOCK])
         requires shift { s < self.now.prime }
-        requires sized { length block.now ≡ 512 }
-        requires room { length into.old ≡ 512 }
         ensures after { into.new ≡ into.old ⊕ shifted self.now.prime self.now.width s block.now }
     {
         let from = s * self.width;
@@ -106,10 +104,8 @@ impl Grid {
     }
 
     // Adds row `r` of `source` to every row of `into`; row `prime - 1` is zeros, and adds nothing.
-    fn add_row_everywhere(&self, r: usize, source: &[u8], into: &mut [u8])
+    fn add_row_everywhere(&self, r: usize, source: &[u8; BLOCK], into: &mut [u8; BLOCK])
         requires row { r < self.now.prime }
-        requires sized { length source.now ≡ 512 }
-        requires room { length into.old ≡ 512 }
         ensures after { into.new ≡ into.old ⊕ everywhere self.now.prime self.now.width r source.now }
     {
         if r < self.prime - 1 {
@@ -118,8 +114,7 @@ impl Grid {
     }
 
     // Adds every row of `block` to the first row of `into`; further bytes of `into` stay.
-    fn sum_rows(&self, block: &[u8], into: &mut [u8])
-        requires sized { length block.now ≡ 512 }
+    fn sum_rows(&self, block: &[u8; BLOCK], into: &mut [u8])
         ensures after { into.new ≡ onto into.old (row_sums self.now.width block.now (self.now.prime - 1)) }
     {
         for row in block.chunks_exact(self.width) {
@@ -128,8 +123,7 @@ impl Grid {
     }
 
     // Adds the sum of all rows of `buffer` to each of its rows.
-    fn unadjust(&self, buffer: &mut [u8])
-        requires sized { length buffer.old ≡ 512 }
+    fn unadjust(&self, buffer: &mut [u8; BLOCK])
         ensures after { buffer.new ≡ unadjusted_block self.now.prime self.now.width buffer.old }
     {
         let mut sum = [0u8; BLOCK];
@@ -138,8 +132,7 @@ impl Grid {
     }
 
     // The rows of `block` and, as row `prime - 1`, their sum; what lies behind that row plays no part.
-    fn close(&self, block: &[u8]) -> [u8; CLOSED]
-        requires sized { length block.now ≡ 512 }
+    fn close(&self, block: &[u8; BLOCK]) -> [u8; CLOSED]
         ensures long { length result ≡ 1024 }
         ensures cells { (r t : ℕ) → r < self.now.prime → t < self.now.width → cell self.now.width result r t ≡ closed self.now.prime (λ k. cell self.now.width block.now k t) r }
     {
@@ -154,8 +147,7 @@ impl Grid {
     // Replaces `buffer` by the block whose shifts by `u` and by `v` add up to it.
     // Two rows of that block, v - u apart, add up to one row of the closed buffer. So a walk in steps of v - u from row `prime - 1`,
     // which is zeros, meets every row once, as the prime has no divisor, and what it has added up is the row that it stands at.
-    fn solve_pair(&self, u: usize, v: usize, buffer: &mut [u8])
-        requires sized { length buffer.old ≡ 512 }
+    fn solve_pair(&self, u: usize, v: usize, buffer: &mut [u8; BLOCK])
         requires some { 0 < u }
         requires low { u ≤ self.now.prime }
         requires other { v ≤ self.now.prime }

@@ -5,8 +5,8 @@ ghost use Rattle.prime.proofs.Laws.{rdp_lawful};
 ghost use Rattle.diagonal.specs.Facts.{lawful_of, sizes_of};
 
 use crate::Grid;
-use code::checks::{check_block, check_column, check_pair};
-use code::{Code, CodeRefusal};
+use code::checks::{check_column, check_pair};
+use code::{BLOCK, Code, CodeRefusal};
 
 // Row-diagonal parity over a prime, for one data column less than the prime.
 #[derive(Clone, Copy)]
@@ -40,8 +40,8 @@ impl Code for Rdp {
 
     // Adds the block shifted by column `j`, and the block shifted by one row, its share of the diagonals through P.
     fn mix_into(&self, j: usize, block: &[u8], into: &mut [u8]) -> Result<(), CodeRefusal> {
-        check_block(block)?;
-        check_block(into)?;
+        let block = block.as_array::<BLOCK>().ok_or(CodeRefusal::Length)?;
+        let into = into.as_mut_array::<BLOCK>().ok_or(CodeRefusal::Length)?;
         check_column(self.limit(), j)?;
         let grid = self.grid;
         grid.add_shifted(grid.fold(grid.prime - j), block, into);
@@ -51,7 +51,7 @@ impl Code for Rdp {
 
     // Solves the column's shift and P's.
     fn unmix(&self, j: usize, buffer: &mut [u8]) -> Result<(), CodeRefusal> {
-        check_block(buffer)?;
+        let buffer = buffer.as_mut_array::<BLOCK>().ok_or(CodeRefusal::Length)?;
         check_column(self.limit(), j)?;
         let grid = self.grid;
         grid.solve_pair(grid.prime - j, 1, buffer);
@@ -60,7 +60,7 @@ impl Code for Rdp {
 
     // Solves the shifts of both columns; P's shares of the two cancel.
     fn unpair(&self, i: usize, j: usize, buffer: &mut [u8]) -> Result<(), CodeRefusal> {
-        check_block(buffer)?;
+        let buffer = buffer.as_mut_array::<BLOCK>().ok_or(CodeRefusal::Length)?;
         check_pair(self.limit(), i, j)?;
         let grid = self.grid;
         grid.solve_pair(grid.prime - i, grid.prime - j, buffer);

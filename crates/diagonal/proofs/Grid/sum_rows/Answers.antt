@@ -45,5 +45,5 @@ returns c =
     let b = c.args.block.now in
     let step = c.in-None.ensures.steps in
     let all : length c.loop-row.yielded ≡ g.prime - 1 =
-    cut_all g.prime g.width 512 (sizes_of g) b c.requires.sized (length c.loop-row.yielded) (chunks_exact_rest c.loop-row.row-iterator) c.loop-row.invariant.cut (omega (arith, step.1.0, c.loop-row.invariant.size)) in
+    cut_all g.prime g.width 512 (sizes_of g) b c.told-block (length c.loop-row.yielded) (chunks_exact_rest c.loop-row.row-iterator) c.loop-row.invariant.cut (omega (arith, step.1.0, c.loop-row.invariant.size)) in
     record { after = c.loop-row.invariant.sums ∙ ap (λ (n : ℕ). onto c.args.into.now (row_sums g.width b n)) all }
