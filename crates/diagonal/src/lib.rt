@@ -87,18 +87,14 @@ impl Grid {
         xor_run(&block[0..rest], &mut into[BLOCK - rest..BLOCK]);
     }
 
-    // A block whose every row is `row`: what is filled so far is copied behind itself, so that the copies are few and long.
+    // A block whose every row is `row`.
     fn repeat(&self, row: &[u8]) -> [u8; BLOCK]
         requires sized { length row.now ≡ self.now.width }
         ensures value { result ≡ repeated self.now.prime self.now.width row.now }
     {
         let mut block = [0u8; BLOCK];
-        self.put_row(0, row, &mut block);
-        let mut done = self.width;
-        while done < BLOCK {
-            let more = done.min(BLOCK - done);
-            block.copy_within(0..more, done);
-            done += more;
+        for k in 0..self.prime - 1 {
+            self.put_row(k, row, &mut block);
         }
         block
     }
