@@ -131,22 +131,6 @@ impl<M: Member> FaultLayer<M> {
             self.plan.tell(Event::Refused(block));
         }
     }
-
-    // Lets time pass below, and then counts it.
-    fn advance(&mut self)
-        ensures exact { planned (M.Member.state self.new.below) self.new.plan ≡ layer_ticked M.Member.ticked (planned (M.Member.state self.old.below) self.old.plan) }
-    {
-        self.below.tick();
-        self.plan.tick();
-    }
-
-    // Ends all active entries, and renews what is below.
-    fn renew(&mut self)
-        ensures exact { planned (M.Member.state self.new.below) self.new.plan ≡ layer_renewed M.Member.renewed (planned (M.Member.state self.old.below) self.old.plan) }
-    {
-        self.plan.tell(Event::Fresh);
-        self.below.fresh();
-    }
 }
 
 impl<M: Member> Member for FaultLayer<M> {
@@ -203,10 +187,12 @@ impl<M: Member> Member for FaultLayer<M> {
     }
 
     fn tick(&mut self) {
-        self.advance();
+        self.below.tick();
+        self.plan.tick();
     }
 
     fn fresh(&mut self) {
-        self.renew();
+        self.plan.tell(Event::Fresh);
+        self.below.fresh();
     }
 }

@@ -1,4 +1,4 @@
-use Rattle.std.proofs.Common.{Some, None, sym, ap, ◌∙◌, subst}
+use Rattle.std.proofs.Common.{◌≡◌, ◌<◌, length, Some, None, sym, ap, ◌∙◌, subst}
 use Rattle.member.specs.Faults.{numbers}
 use Rattle.member.specs.Changes.{Written}
 use Rattle.faultplan.specs.Layers.{planned, layer_meaning}
@@ -12,11 +12,12 @@ returns-in-Ok g c =
     let x = planned (M.state self.below) self.plan in
     let b = c.args.block in
     let v = c.args.bytes.now in
-    let good = c.in_ok-admit.ensures.good in
+    let whole : length v ≡ 512 = c.in_ok-admit.ensures.good.sized in
+    let there : b < (M.meaning x.below).count = c.in_ok-admit.ensures.good.there in
     let pass = sym c.in-Ok.ensures.answered in
-    let exact = c.pass.ensures.exact ∙ sym (wrote_settled M.meaning M.wrote x b v good.sized good.there None pass) in
+    let exact = c.pass.ensures.exact ∙ sym (wrote_settled M.meaning M.wrote x b v whole there None pass) in
     record {
-      answered = c.pass.ensures.answered ∙ sym (layered_write M.meaning M.wrote x b v good.sized good.there None pass);
+      answered = c.pass.ensures.answered ∙ sym (layered_write M.meaning M.wrote x b v whole there None pass);
       exact = exact;
       after =
           subst (λ y. Written (layer_meaning M.meaning x) b v (layer_meaning M.meaning y)) (sym exact)
@@ -31,13 +32,14 @@ returns-in-Err g c =
     let b = c.args.block in
     let v = c.args.bytes.now in
     let f = Some (numbers c.in-Err.fault) in
-    let good = c.in_ok-admit.ensures.good in
+    let whole : length v ≡ 512 = c.in_ok-admit.ensures.good.sized in
+    let there : b < (M.meaning x.below).count = c.in_ok-admit.ensures.good.there in
     let shut = sym c.in-Err.ensures.answered in
     let exact =
     same_planned (ap M.state c.stop.ensures.below) c.stop.ensures.plan
-    ∙ sym (wrote_settled M.meaning M.wrote x b v good.sized good.there f shut) in
+    ∙ sym (wrote_settled M.meaning M.wrote x b v whole there f shut) in
     record {
-      answered = sym (layered_write M.meaning M.wrote x b v good.sized good.there f shut);
+      answered = sym (layered_write M.meaning M.wrote x b v whole there f shut);
       exact = exact;
       after =
           subst (λ y. Written (layer_meaning M.meaning x) b v (layer_meaning M.meaning y)) (sym exact)
