@@ -11,10 +11,10 @@ use Rattle.member.specs.Faults.{Refusal, raised}
 use Rattle.member.specs.Meaning.{Meaning, most_blocks, read_refusal, write_refusal}
 use Rattle.member.specs.Changes.{Written, Ticked, Renewed}
 use Rattle.member.specs.Runs.{bottom_origin, cut, pasted, image_meaning, image_wrote, image_count}
-use Rattle.member.specs.RunsLemmas.{read_ok, handed_ok, wrote_ok, image_room, image_writes, image_lawful, length_wrote, low_wrote, low_take, low_drop, low_append}
+use Rattle.member.specs.RunsLemmas.{read_ok, image_room, image_writes, image_lawful, length_wrote, low_wrote, low_take, low_drop, low_append}
 use Rattle.bank.specs.Slots.{Slots, no_slot, on_slot, slot_handed}
 use Rattle.bank.specs.Changes.{Changed, SlotWritten, Lawful}
-use Rattle.shelf.specs.Shelves.{Shelved, shelved, shelf_sound, span, part, with_part, shelf_meaning, shelf_wrote, Found}
+use Rattle.shelf.specs.Shelves.{Shelved, shelved, shelf_sound, span, part, with_part, shelf_meaning, shelf_wrote, Placed}
 
 -- ---- where the images lie
 step : (k i e : ℕ) → k < i → k * e + e ≤ i * e
@@ -218,30 +218,22 @@ refused_wrote s i b v f e =
     (λ ys. shelved (with_part s.bytes s.images i ys) s.images) (pasted p b v) p e
     (ap (λ xs. shelved xs s.images) (same_part s.bytes s.images i))
 
--- ---- an image that was found, as it is lent and put back
-module _ (xs : List ℕ) (n i b m a e : ℕ) (at : Found xs n i b m a e) where
+-- ---- an image as it is lent and put back
+module _ (xs : List ℕ) (n i a e : ℕ) (at : Placed xs n i a e) where
   width : e - a ≡ span xs n
   width = omega (arith, at.to)
 
-  pub lent_is : take (e - a) (drop a xs) ≡ part xs n i
-  lent_is = ap (λ w. take w (drop a xs)) width ∙ ap (λ k. take (span xs n) (drop k xs)) at.from
+  pub lent_is : (zs : List ℕ) → zs ≡ xs → slice_range zs a e ≡ part xs n i
+  lent_is zs same =
+      ap (λ ys. take (e - a) (drop a ys)) same ∙ ap (λ w. take w (drop a xs)) width ∙ ap (λ k. take (span xs n) (drop k xs)) at.from
 
-  pub lent_room : b * 512 + 512 ≤ length (slice_range xs a e)
-  lent_room = omega (arith, ap length lent_is, part_length xs n i at.slot, at.block)
-
-  pub back_is : (ys : List ℕ) → put_mid a (e - a) xs ys ≡ with_part xs n i ys
+  back_is : (ys : List ℕ) → put_mid a (e - a) xs ys ≡ with_part xs n i ys
   back_is ys = ap (λ w. put_mid a w xs ys) width ∙ ap (λ k. put_mid k (span xs n) xs ys) at.from
 
-  pub handed_found : (old : List ℕ) → length old ≡ m → cut (slice_range xs a e) b ≡ slot_handed (shelf_meaning (shelved xs n)) i b old
-  handed_found old long =
-      ap (λ p. cut p b) lent_is
-      ∙ sym (cond-true _ _ _ (lt-ltb i n at.slot) ∙ handed_ok (image_count (part xs n i)) (part xs n i) b at.low old (long ∙ at.sized))
-
-  pub wrote_found : (v : List ℕ) → length v ≡ m
-      → shelved (put_mid a (e - a) xs (pasted (slice_range xs a e) b v)) n ≡ shelf_wrote (shelved xs n) i b v
-  wrote_found v long =
-      ap (λ ys. shelved ys n)
-      (back_is _
-      ∙ ap (with_part xs n i)
-      (ap (λ p. pasted p b v) lent_is ∙ sym (wrote_ok (image_count (part xs n i)) (part xs n i) b at.low v (long ∙ at.sized))))
+  -- the shelf with an image put back after a write to it
+  pub wrote_lent : (zs : List ℕ) → zs ≡ xs → (b : ℕ) (v ys : List ℕ) → ys ≡ image_wrote (slice_range zs a e) b v
+      → shelved (put_mid a (e - a) zs ys) n ≡ shelf_wrote (shelved xs n) i b v
+  wrote_lent zs same b v ys h =
+      ap (λ ks. shelved (put_mid a (e - a) ks ys) n) same
+      ∙ ap (λ ks. shelved ks n) (back_is ys ∙ ap (with_part xs n i) (h ∙ ap (λ p. image_wrote p b v) (lent_is zs same)))
       ∙ sym (wrote_here (shelved xs n) i b v at.slot)
