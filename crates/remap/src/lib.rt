@@ -146,7 +146,8 @@ impl<M: Member> Member for Remap<M> {
 
     fn look(&self, block: usize) -> Result<(), Fault> {
         self.admit(block, BLOCK)?;
-        self.below.look(self.place(block))
+        let at = self.place(block);
+        self.below.look(at)
     }
 
     fn read(&mut self, block: usize, buffer: &mut [u8]) -> Result<(), Fault> {

@@ -11,5 +11,5 @@ returns g c =
       answered =
           c.look.ensures.answered
           ∙ look_through (table_of s.moves) (g.M.Member.meaning (g.M.Member.state s.below)) (table_within s.moves) c.args.block _
-          c.in_ok-admit.ensures.good _ c.place.ensures.value;
+          c.in_ok-admit.ensures.good _ c.place-at.ensures.value;
     }
