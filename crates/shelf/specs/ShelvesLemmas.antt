@@ -2,7 +2,7 @@
 use Rattle.std.specs.Prelude.{◌≡◌, ℕ, ◌+◌, ◌-◌, ◌*◌, ◌/◌, ◌^◌, ◌<◌, ◌≤◌, min, Bool, true, false, cond, List, ◌++◌, length, take, drop, is_some, Some, None, Option, ◌==◌, ◌≢◌, nat_lt, slice_index, slice_range, refl}
 use Rattle.std.proofs.Common.{sym, ap, subst, ◌∙◌, ⊎_elim, arith, mul-le-mul_right, suc-mul, mul_assoc, mul_comm, le-div_iff_mul-le, div-lt_iff_lt-mul, length-take, length-drop, take-append-drop}
 use Rattle.std.proofs.Math.Nat.{mul-div-le}
-use borrow.Rule.Slice.PartMut.{put_mid, same_len_mid}
+use borrow.Rule.Slice.PartMut.{same_len_mid}
 use Rattle.std.proofs.lemmas.Bool.{cond-true, cond-false, lt-ltb, le-ltb, eq-eqb, cases_order, cases_lt}
 use Rattle.std.proofs.lemmas.Slice.{between_is, between-put_mid, take-put_mid_below, drop-put_mid}
 use Rattle.code.specs.Blocks.{Bytes, block_size}
@@ -218,22 +218,8 @@ refused_wrote s i b v f e =
     (λ ys. shelved (with_part s.bytes s.images i ys) s.images) (pasted p b v) p e
     (ap (λ xs. shelved xs s.images) (same_part s.bytes s.images i))
 
--- ---- an image as it is lent and put back
-module _ (xs : List ℕ) (n i a e : ℕ) (at : Placed xs n i a e) where
-  width : e - a ≡ span xs n
-  width = omega (arith, at.to)
-
-  pub lent_is : (zs : List ℕ) → zs ≡ xs → slice_range zs a e ≡ part xs n i
-  lent_is zs same =
-      ap (λ ys. take (e - a) (drop a ys)) same ∙ ap (λ w. take w (drop a xs)) width ∙ ap (λ k. take (span xs n) (drop k xs)) at.from
-
-  back_is : (ys : List ℕ) → put_mid a (e - a) xs ys ≡ with_part xs n i ys
-  back_is ys = ap (λ w. put_mid a w xs ys) width ∙ ap (λ k. put_mid k (span xs n) xs ys) at.from
-
-  -- the shelf with an image put back after a write to it
-  pub wrote_lent : (zs : List ℕ) → zs ≡ xs → (b : ℕ) (v ys : List ℕ) → ys ≡ image_wrote (slice_range zs a e) b v
-      → shelved (put_mid a (e - a) zs ys) n ≡ shelf_wrote (shelved xs n) i b v
-  wrote_lent zs same b v ys h =
-      ap (λ ks. shelved (put_mid a (e - a) ks ys) n) same
-      ∙ ap (λ ks. shelved ks n) (back_is ys ∙ ap (with_part xs n i) (h ∙ ap (λ p. image_wrote p b v) (lent_is zs same)))
-      ∙ sym (wrote_here (shelved xs n) i b v at.slot)
+-- ---- an image as it is lent
+pub lent_is : (xs zs : List ℕ) (n i a e : ℕ) → Placed xs n i a e → zs ≡ xs → slice_range zs a e ≡ part xs n i
+lent_is xs zs n i a e at same =
+    let width : e - a ≡ span xs n = omega (arith, at.to) in
+    ap (λ ys. take (e - a) (drop a ys)) same ∙ ap (λ w. take w (drop a xs)) width ∙ ap (λ k. take (span xs n) (drop k xs)) at.from

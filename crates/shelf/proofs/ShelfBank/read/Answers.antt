@@ -8,5 +8,5 @@ use Rattle.shelf.proofs.ShelfBank.read.Goals as goal
 pub returns-clause-after : goal.returns-clause-after
 returns-clause-after c =
     let at = c.in_ok-at.ensures.found in
-    let lent = lent_is c.args.self.now.buffer.items c.args.self.now.images c.args.slot _ _ at _ c.deref.ensures.value in
+    let lent = lent_is c.args.self.now.buffer.items _ c.args.self.now.images c.args.slot _ _ at c.deref.ensures.value in
     c.read_in.ensures.after ∙ (ap (λ p. handed (image_meaning p) c.args.block c.args.buffer.now) lent ∙ sym (cond-true _ _ _ (lt-ltb _ _ at.slot)))
