@@ -1,9 +1,9 @@
 -- A call on a block of a remap layer is one on its place below.
-use Rattle.std.proofs.Common.{◌≡◌, ℕ, ◌<◌, ◌≤◌, cond, arith, List, length, is_some, Some, None, unwrap_or, sym, ap, ◌∙◌, ap₂}
+use Rattle.std.proofs.Common.{◌≡◌, ℕ, ◌<◌, ◌≤◌, cond, arith, is_some, Some, None, sym, ap, ◌∙◌}
 use Rattle.member.specs.declared.Cause.TheVariants.{Gone, Unreadable}
 use Rattle.member.specs.Faults.{raised}
-use Rattle.member.specs.Meaning.{Meaning, Good, look_refusal, read_refusal, get_refusal, handed}
-use Rattle.member.specs.Outcomes.{good_look, good_read, good_handed}
+use Rattle.member.specs.Meaning.{Meaning, Good, look_refusal, read_refusal, get_refusal}
+use Rattle.member.specs.Outcomes.{good_look, good_read}
 use Rattle.remap.specs.Places.{Table, place, used}
 use Rattle.remap.specs.Remapped.{remapped, own_count}
 use Rattle.remap.specs.Tries.{block_in, inside}
@@ -12,9 +12,6 @@ module _ (t : Table) (m : Meaning) (within : used t ≤ t.spares) (b n : ℕ) (g
     (ea : at ≡ place t (own_count t m) b) where
   under : at < m.count
   under = let h = inside t (own_count t m) m within (omega arith) b good.there in omega (arith, ea)
-
-  block_through : m.block at ≡ (remapped t m).block b
-  block_through = ap m.block ea ∙ sym (block_in t (own_count t m) m b good.there)
 
   get_through : get_refusal m at ≡ get_refusal (remapped t m) b
   get_through =
@@ -28,9 +25,3 @@ module _ (t : Table) (m : Meaning) (within : used t ≤ t.spares) (b n : ℕ) (g
 
   pub read_through : read_refusal m at n ≡ read_refusal (remapped t m) b n
   read_through = good_read m at under n good.sized ∙ get_through ∙ sym (good_read (remapped t m) b good.there n good.sized)
-
-  pub handed_through : (old : List ℕ) → length old ≡ n → handed m at old ≡ handed (remapped t m) b old
-  handed_through old e =
-      good_handed m at under old (e ∙ good.sized)
-      ∙ ap₂ (λ r o. cond (is_some r) old (unwrap_or o old)) get_through block_through
-      ∙ sym (good_handed (remapped t m) b good.there old (e ∙ good.sized))
