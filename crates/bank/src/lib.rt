@@ -9,6 +9,7 @@ ghost use Rattle.bank.specs.Changes.{SlotWritten, SlotTicked, SlotRenewed, Lawfu
 
 use member::run::raised;
 use member::{Cause, Fault};
+use std::error::Error;
 use std::fmt;
 
 pub mod chain;
@@ -46,6 +47,8 @@ impl fmt::Display for BankFault {
         write!(f, "{fault}")
     }
 }
+
+impl Error for BankFault {}
 
 // A bank: a list of members. A slot beyond the list is refused with cause `NoSlot`, and nothing changes. Each other call answers
 // what the member in that slot answers, and changes that member alone.

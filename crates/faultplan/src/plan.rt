@@ -4,6 +4,7 @@ ghost use Rattle.faultplan.specs.Entries.{after, fails};
 ghost use Rattle.faultplan.specs.Plans.{plan_number, add_answer, room_answer, any, failed, empty, with_entry, told, advanced, EndedForGood};
 
 use crate::entry::{Check, Entry, Event, Kind, Phase};
+use std::error::Error;
 use std::fmt;
 
 // How many entries there are at most, ended ones counted.
@@ -28,6 +29,8 @@ impl fmt::Display for PlanRefusal {
         write!(f, "{number}")
     }
 }
+
+impl Error for PlanRefusal {}
 
 impl PlanRefusal {
     // The number by which the refusal is known.

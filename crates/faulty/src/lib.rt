@@ -58,7 +58,8 @@ impl<M: Member> FaultLayer<M> {
         below
     }
 
-    // Plans a fault of the kind with this number, active from this round on. There are at most sixteen, ended ones counted.
+    // Plans a fault of the kind with this number, active from this round on. There are at most sixteen, ended ones counted. The kind
+    // comes as its number, since every number is taken: a `Kind` would ask more of callers.
     pub fn add(&mut self, round: usize, kind: usize, block: usize) -> Result<(), PlanRefusal>
         ensures answered { add_answer result ≡ room_answer self.old.plan }
         ensures plan { self.new.plan ≡ with_entry self.old.plan round (kind_of kind) block }
@@ -95,7 +96,8 @@ impl<M: Member> FaultLayer<M> {
         Ok(())
     }
 
-    // Refuses a call on the block in this place that is not to go below, by the check that it asks for.
+    // Refuses a call on a block that is not to go below, by the check that it asks for. The block stands beside the check, since a check
+    // that the member is present names none.
     fn withhold(&self, check: Check, at: usize) -> Result<(), Fault>
         requires there { at < (M.Member.meaning (M.Member.state self.now.below)).count }
         ensures answered { refusal result ≡ withheld self.now.plan (M.Member.meaning (M.Member.state self.now.below)) check at }

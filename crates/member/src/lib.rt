@@ -7,6 +7,7 @@ ghost use Rattle.member.specs.Faults.{cause_number, numbers, fault_text, refusal
 ghost use Rattle.member.specs.Meaning.{Meaning, look_refusal, read_refusal, write_refusal, handed};
 ghost use Rattle.member.specs.Changes.{Written, Ticked, Renewed, Lawful};
 
+use std::error::Error;
 use std::fmt;
 
 pub mod cell;
@@ -80,6 +81,8 @@ impl fmt::Display for Fault {
         write!(f, "{cause} {height} {block}")
     }
 }
+
+impl Error for Fault {}
 
 // Whether a call was refused with this cause.
 pub fn refused_with(answer: &Result<(), Fault>, cause: Cause) -> bool

@@ -14,7 +14,8 @@ use std::fmt;
 // What every buffer holds before a read, so that a refused read shows that it left the buffer.
 const BEFORE: u8 = 99;
 
-// A call on the member in a slot.
+// A call on the member in a slot. The calls of a table are values and no closures: a closure would be made for one kind of bank, and
+// a table of them would keep boxed ones.
 #[derive(Clone, Copy)]
 pub(crate) enum Call {
     Count,
