@@ -4,7 +4,7 @@ ghost use Rattle.bank.specs.Chains.{linked, Linked, LinkedSound, linked_meaning,
 ghost use Rattle.bank.specs.ChainsLemmas.{linked_lawful};
 ghost use Rattle.std.proofs.Common.{rules};
 
-use crate::{Bank, BankFault, lifted};
+use crate::{Bank, BankFault};
 use member::Member;
 
 // A member in slot 0, before a bank whose slots stand one further each.
@@ -48,21 +48,21 @@ impl<M: Member, B: Bank> Bank for Link<M, B> {
 
     fn look(&self, slot: usize, block: usize) -> Result<(), BankFault> {
         if slot == 0 {
-            return lifted(self.first.look(block));
+            return Ok(self.first.look(block)?);
         }
         self.rest.look(slot - 1, block)
     }
 
     fn read(&mut self, slot: usize, block: usize, buffer: &mut [u8]) -> Result<(), BankFault> {
         if slot == 0 {
-            return lifted(self.first.read(block, buffer));
+            return Ok(self.first.read(block, buffer)?);
         }
         self.rest.read(slot - 1, block, buffer)
     }
 
     fn write(&mut self, slot: usize, block: usize, bytes: &[u8]) -> Result<(), BankFault> {
         if slot == 0 {
-            return lifted(self.first.write(block, bytes));
+            return Ok(self.first.write(block, bytes)?);
         }
         self.rest.write(slot - 1, block, bytes)
     }

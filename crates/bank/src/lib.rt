@@ -1,13 +1,16 @@
 // Banks: members in numbered slots. Here are the interface and its refusals; a call with a slot number touches that member alone.
 #![tactic(auto)]
 
-ghost use Rattle.std.specs.Prelude.{◌≡◌, ℕ, List, length, IfOk};
-ghost use Rattle.member.specs.Faults.{numbers, refusal};
+ghost use Rattle.std.specs.Prelude.{◌≡◌, ℕ, List, length, Some, IfOk};
+ghost use Rattle.member.specs.Faults.{numbers, fault_text, refusal};
 ghost use Rattle.member.specs.Meaning.{look_refusal, read_refusal, write_refusal};
 ghost use Rattle.bank.specs.Slots.{Slots, told, bank_refusal, no_slot, on_slot, slot_refusal, slot_handed};
 ghost use Rattle.bank.specs.Changes.{SlotWritten, SlotTicked, SlotRenewed, Lawful};
 
+use member::run::raised;
 use member::{Cause, Fault};
+use std::error::Error;
+use std::fmt;
 
 pub mod chain;
 pub mod empty;
@@ -23,17 +26,11 @@ impl BankFault {
     pub fn no_slot(block: usize) -> BankFault
         ensures value { numbers result.fault ≡ no_slot block }
     {
-        BankFault {
-            fault: Fault {
-                cause: Cause::NoSlot,
-                height: 0,
-                block,
-            },
-        }
+        BankFault::from(raised(Cause::NoSlot, block))
     }
 }
 
-// A member's fault goes up through its bank unchanged.
+// A member's fault goes up through its bank unchanged, and is printed as it is.
 impl From<Fault> for BankFault {
     ghost from_gives = { λ x y. y.fault ≡ x };
 
@@ -42,13 +39,16 @@ impl From<Fault> for BankFault {
     }
 }
 
-// A member's answer as the answer of its bank, for kinds of bank to pass it up.
-pub fn lifted(answer: Result<(), Fault>) -> Result<(), BankFault>
-    ensures answered { bank_refusal result ≡ refusal answer }
-{
-    answer?;
-    Ok(())
+impl fmt::Display for BankFault {
+    ghost output = { λ x. Some (fault_text (numbers x.fault)) };
+
+    fn fmt<W: fmt::Write>(&self, f: &mut fmt::Formatter<W>) -> fmt::Result {
+        let fault = self.fault;
+        write!(f, "{fault}")
+    }
 }
+
+impl Error for BankFault {}
 
 // A bank: a list of members. A slot beyond the list is refused with cause `NoSlot`, and nothing changes. Each other call answers
 // what the member in that slot answers, and changes that member alone.

@@ -5,7 +5,7 @@ ghost use Rattle.faultplan.specs.Entries.{kind_of, check_cause, after, fails};
 use member::Cause;
 
 // What an entry does while it is active.
-#[derive(Clone, Copy)]
+#[derive(Clone, Copy, PartialEq, Eq, Debug)]
 pub enum Kind {
     // the member is gone
     Gone,
@@ -18,7 +18,7 @@ pub enum Kind {
 }
 
 // How far an entry has come.
-#[derive(Clone, Copy)]
+#[derive(Clone, Copy, PartialEq, Eq, Debug)]
 pub enum Phase {
     // its round is still to come, or was over when it was added
     Waiting,
@@ -30,7 +30,7 @@ pub enum Phase {
 }
 
 // What entries are told of.
-#[derive(Clone, Copy)]
+#[derive(Clone, Copy, PartialEq, Eq, Debug)]
 pub enum Event {
     // a new round begins
     Round(usize),
@@ -43,7 +43,7 @@ pub enum Event {
 }
 
 // What a call asks of a member: that it is there, that a block can be read, that a block takes a write.
-#[derive(Clone, Copy)]
+#[derive(Clone, Copy, PartialEq, Eq, Debug)]
 pub enum Check {
     Present,
     Readable(usize),
@@ -51,7 +51,7 @@ pub enum Check {
 }
 
 // A planned fault.
-#[derive(Clone, Copy)]
+#[derive(Clone, Copy, PartialEq, Eq, Debug)]
 pub struct Entry {
     pub round: usize,
     pub kind: Kind,
@@ -59,11 +59,11 @@ pub struct Entry {
     pub phase: Phase,
 }
 
-impl Kind {
-    // The kind with this number.
-    pub fn of(number: usize) -> Kind
-        ensures value { result ≡ kind_of number }
-    {
+// The kind with this number.
+impl From<usize> for Kind {
+    ghost from_gives = { λ n k. k ≡ kind_of n };
+
+    fn from(number: usize) -> Kind {
         match number {
             1 => Kind::Gone,
             2 => Kind::Unreadable,
@@ -94,18 +94,13 @@ impl Entry {
         let phase = match (self.phase, event) {
             (Phase::Waiting, Event::Round(round)) if self.round == round => Phase::Active,
             (Phase::Active, Event::Refused(block))
-                if self.block == block && matches!(self.kind, Kind::Unwritable) => Phase::Spoiled,
+                if self.block == block && self.kind == Kind::Unwritable => Phase::Spoiled,
             (Phase::Active, Event::Accepted(block))
-                if self.block == block && matches!(self.kind, Kind::Unreadable) => Phase::Ended,
+                if self.block == block && self.kind == Kind::Unreadable => Phase::Ended,
             (Phase::Active | Phase::Spoiled, Event::Fresh) => Phase::Ended,
             (phase, _) => phase,
         };
-        Entry {
-            round: self.round,
-            kind: self.kind,
-            block: self.block,
-            phase,
-        }
+        Entry { phase, ..self }
     }
 
     // Whether the entry makes a check fail.

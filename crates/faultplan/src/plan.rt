@@ -1,9 +1,11 @@
 // The table of a fault layer: at most sixteen planned faults, and the count of ticks.
-ghost use Rattle.std.specs.Prelude.{◌≡◌, map};
+ghost use Rattle.std.specs.Prelude.{◌≡◌, map, Some, decimal};
 ghost use Rattle.faultplan.specs.Entries.{after, fails};
 ghost use Rattle.faultplan.specs.Plans.{plan_number, add_answer, room_answer, any, failed, empty, with_entry, told, advanced, EndedForGood};
 
 use crate::entry::{Check, Entry, Event, Kind, Phase};
+use std::error::Error;
+use std::fmt;
 
 // How many entries there are at most, ended ones counted.
 const PLACES: usize = 16;
@@ -18,6 +20,18 @@ pub enum PlanRefusal {
     Full,
 }
 
+// A refusal is printed as its number.
+impl fmt::Display for PlanRefusal {
+    ghost output = { λ e. Some (decimal (plan_number e)) };
+
+    fn fmt<W: fmt::Write>(&self, f: &mut fmt::Formatter<W>) -> fmt::Result {
+        let number = self.number();
+        write!(f, "{number}")
+    }
+}
+
+impl Error for PlanRefusal {}
+
 impl PlanRefusal {
     // The number by which the refusal is known.
     pub fn number(self) -> u8
@@ -29,7 +43,8 @@ impl PlanRefusal {
     }
 }
 
-// Places beyond `len` hold entries that have ended.
+// Places beyond `len` hold entries that have ended. The table is of fixed size, with a length beside it: there are at most sixteen
+// entries, and the layers use no heap.
 #[derive(Drop)]
 pub struct Plan {
     entries: [Entry; PLACES],
@@ -37,7 +52,7 @@ pub struct Plan {
     round: usize,
 }
 
-// Tells every entry in turn of an event.
+// Tells every entry in turn of an event. This and the search below go over the entries by `for`, which is a rule of the project.
 fn tell_each(entries: &mut [Entry; PLACES], event: Event)
     ensures after { entries.new ≡ map (after event) entries.old }
 {
@@ -126,8 +141,6 @@ impl Plan {
 }
 
 // Fresh ends what is active, and what has ended stays so.
-pub fn ended_for_good() -> u8
+pub fn ended_for_good()
     ensures theorem { EndedForGood }
-{
-    0
-}
+{}

@@ -7,13 +7,13 @@
 // of ticks goes on.
 #![tactic(auto)]
 
-ghost use Rattle.std.specs.Prelude.{◌≡◌, ◌<◌, length, if◌then◌else◌, nat_eq};
+ghost use Rattle.std.specs.Prelude.{◌≡◌, ◌<◌, length, IfOk, if◌then◌else◌, nat_eq};
 ghost use Rattle.member.specs.Faults.{cause_number, numbers, refusal, raised};
-ghost use Rattle.member.specs.Meaning.{write_refusal};
+ghost use Rattle.member.specs.Meaning.{write_refusal, admission, Good};
 ghost use Rattle.faultplan.specs.declared.entry.Event.TheVariants.{Refused};
 ghost use Rattle.faultplan.specs.Entries.{kind_of};
 ghost use Rattle.faultplan.specs.Plans.{add_answer, room_answer, empty, with_entry, told};
-ghost use Rattle.faultplan.specs.Layers.{own_origin, withheld, only_gone, Planned, planned, layer_meaning, layer_seen, passed, layer_wrote, layer_ticked, layer_renewed};
+ghost use Rattle.faultplan.specs.Layers.{own_origin, withheld, only_gone, Planned, planned, layered, layer_meaning, layer_seen, passed, layer_wrote, layer_ticked, layer_renewed};
 ghost use Rattle.faultplan.proofs.Layers.{layer_lawful};
 ghost use Rattle.std.proofs.Common.{rules};
 
@@ -33,11 +33,8 @@ fn if_gone(answer: Result<(), Fault>) -> Result<(), Fault>
     ensures value { refusal result ≡ only_gone (refusal answer) }
 {
     match answer {
-        Ok(()) => Ok(()),
-        Err(fault) => match fault.cause {
-            Cause::Gone => Err(fault),
-            _ => Ok(()),
-        },
+        Err(fault) if fault.cause == Cause::Gone => Err(fault),
+        _ => Ok(()),
     }
 }
 
@@ -61,13 +58,14 @@ impl<M: Member> FaultLayer<M> {
         below
     }
 
-    // Plans a fault of the kind with this number, active from this round on. There are at most sixteen, ended ones counted.
+    // Plans a fault of the kind with this number, active from this round on. There are at most sixteen, ended ones counted. The kind
+    // comes as its number, since every number is taken: a `Kind` would ask more of callers.
     pub fn add(&mut self, round: usize, kind: usize, block: usize) -> Result<(), PlanRefusal>
         ensures answered { add_answer result ≡ room_answer self.old.plan }
         ensures plan { self.new.plan ≡ with_entry self.old.plan round (kind_of kind) block }
         ensures below { self.new.below ≡ self.old.below }
     {
-        self.plan.add(round, Kind::of(kind), block)
+        self.plan.add(round, Kind::from(kind), block)
     }
 }
 
@@ -84,21 +82,34 @@ impl<M: Member> FaultLayer<M> {
         }
     }
 
-    // Refuses a call that is not to go below, by the check that it asks for.
-    fn withhold(&self, check: Check, block: usize) -> Result<(), Fault>
-        requires there { block < (M.Member.meaning (M.Member.state self.now.below)).count }
-        ensures answered { refusal result ≡ withheld self.now.plan (M.Member.meaning (M.Member.state self.now.below)) check block }
+    // Refuses a buffer of so many bytes that is not a block's, and then a block that there is not.
+    fn admit(&self, block: usize, size: usize) -> Result<(), Fault>
+        ensures answered { refusal result ≡ admission (layered self.now.plan (M.Member.meaning (M.Member.state self.now.below))) block size }
+        ensures good { IfOk result (λ _. Good (M.Member.meaning (M.Member.state self.now.below)) block size) }
+    {
+        if size != BLOCK {
+            return Err(self.own(Cause::BadBuffer, block));
+        }
+        if block >= self.count() {
+            return Err(self.own(Cause::NoBlock, block));
+        }
+        Ok(())
+    }
+
+    // Refuses a call on a block that is not to go below, by the check that it asks for. The block stands beside the check, since a check
+    // that the member is present names none.
+    fn withhold(&self, check: Check, at: usize) -> Result<(), Fault>
+        requires there { at < (M.Member.meaning (M.Member.state self.now.below)).count }
+        ensures answered { refusal result ≡ withheld self.now.plan (M.Member.meaning (M.Member.state self.now.below)) check at }
     {
         if self.plan.fails(Check::Present) {
-            return Err(self.own(Cause::Gone, block));
+            return Err(self.own(Cause::Gone, at));
         }
-        if !self.plan.fails(check) {
-            return Ok(());
+        if self.plan.fails(check) {
+            if_gone(self.below.look(at))?;
+            return Err(self.own(check.cause(), at));
         }
-        match if_gone(self.below.look(block)) {
-            Ok(()) => Err(self.own(check.cause(), block)),
-            Err(fault) => Err(fault),
-        }
+        Ok(())
     }
 
     // Hands a write on. An accepted one mends the block.
@@ -118,26 +129,9 @@ impl<M: Member> FaultLayer<M> {
         ensures below { self.new.below ≡ self.old.below }
         ensures plan { self.new.plan ≡ (if nat_eq (cause_number fault.cause) 3 then told (Refused block) self.old.plan else self.old.plan) }
     {
-        match fault.cause {
-            Cause::Unwritable => self.plan.tell(Event::Refused(block)),
-            _ => {}
+        if fault.cause == Cause::Unwritable {
+            self.plan.tell(Event::Refused(block));
         }
-    }
-
-    // Lets time pass below, and then counts it.
-    fn advance(&mut self)
-        ensures exact { planned (M.Member.state self.new.below) self.new.plan ≡ layer_ticked M.Member.ticked (planned (M.Member.state self.old.below) self.old.plan) }
-    {
-        self.below.tick();
-        self.plan.tick();
-    }
-
-    // Ends all active entries, and renews what is below.
-    fn renew(&mut self)
-        ensures exact { planned (M.Member.state self.new.below) self.new.plan ≡ layer_renewed M.Member.renewed (planned (M.Member.state self.old.below) self.old.plan) }
-    {
-        self.plan.tell(Event::Fresh);
-        self.below.fresh();
     }
 }
 
@@ -172,35 +166,19 @@ impl<M: Member> Member for FaultLayer<M> {
     }
 
     fn look(&self, block: usize) -> Result<(), Fault> {
-        if block >= self.count() {
-            return Err(self.own(Cause::NoBlock, block));
-        }
-        match self.withhold(Check::Readable(block), block) {
-            Ok(()) => self.below.look(block),
-            Err(fault) => Err(fault),
-        }
+        self.admit(block, BLOCK)?;
+        self.withhold(Check::Readable(block), block)?;
+        self.below.look(block)
     }
 
     fn read(&mut self, block: usize, buffer: &mut [u8]) -> Result<(), Fault> {
-        if buffer.len() != BLOCK {
-            return Err(self.own(Cause::BadBuffer, block));
-        }
-        if block >= self.count() {
-            return Err(self.own(Cause::NoBlock, block));
-        }
-        match self.withhold(Check::Readable(block), block) {
-            Ok(()) => self.below.read(block, buffer),
-            Err(fault) => Err(fault),
-        }
+        self.admit(block, buffer.len())?;
+        self.withhold(Check::Readable(block), block)?;
+        self.below.read(block, buffer)
     }
 
     fn write(&mut self, block: usize, bytes: &[u8]) -> Result<(), Fault> {
-        if bytes.len() != BLOCK {
-            return Err(self.own(Cause::BadBuffer, block));
-        }
-        if block >= self.count() {
-            return Err(self.own(Cause::NoBlock, block));
-        }
+        self.admit(block, bytes.len())?;
         match self.withhold(Check::Writable(block), block) {
             Ok(()) => self.pass(block, bytes),
             Err(fault) => {
@@ -211,10 +189,12 @@ impl<M: Member> Member for FaultLayer<M> {
     }
 
     fn tick(&mut self) {
-        self.advance();
+        self.below.tick();
+        self.plan.tick();
     }
 
     fn fresh(&mut self) {
-        self.renew();
+        self.plan.tell(Event::Fresh);
+        self.below.fresh();
     }
 }

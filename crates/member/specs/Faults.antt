@@ -1,5 +1,5 @@
 -- Faults in numbers.
-use Rattle.std.specs.Prelude.{◌≡◌, ℕ, ◌+◌, min, Bool, false, Some, None, Ok, Err, Option, Result, ◌==◌}
+use Rattle.std.specs.Prelude.{◌≡◌, ℕ, ◌+◌, min, Bool, false, List, ◌++◌, codes, decimal, Some, None, Ok, Err, Option, Result, ◌==◌}
 use Rattle.member.specs.declared.Cause.{Cause}
 use Rattle.member.specs.declared.Cause.TheVariants.{Gone, Unreadable, Unwritable, NoBlock, BadBuffer, NoSlot}
 use Rattle.member.specs.declared.Fault.{Fault}
@@ -30,6 +30,10 @@ raised c o = record { cause = cause_number c; from = o }
 -- a fault in numbers
 abbrev pub numbers : Fault → Refusal
 numbers f = raised f.cause (record { height = f.height; block = f.block })
+
+-- a refusal in text: its cause, its height and its block
+abbrev pub fault_text : Refusal → List ℕ
+fault_text r = decimal r.cause ++ (codes " " ++ (decimal r.from.height ++ (codes " " ++ decimal r.from.block)))
 
 -- what a call answered: nothing where it was accepted, else the refusal
 abbrev pub refusal : {U : Type 0} → Result U Fault → Option Refusal

@@ -1,5 +1,5 @@
 -- What a member means, and what it answers by that.
-use Rattle.std.specs.Prelude.{◌≡◌, ℕ, ◌≤◌, Bool, cond, List, length, is_some, Some, None, Option, ◌==◌, nat_lt}
+use Rattle.std.specs.Prelude.{◌≡◌, ℕ, ◌<◌, ◌≤◌, Bool, cond, List, length, is_some, Some, None, Option, ◌==◌, nat_lt}
 use Rattle.std.specs.Option.{unwrap_or}
 use Rattle.code.specs.Blocks.{Block, block_size}
 use Rattle.member.specs.declared.Cause.{Cause}
@@ -42,6 +42,15 @@ on_block m b refused = cond (nat_lt b m.count) refused (Some (own m NoBlock b))
 -- 5 for a buffer of n bytes that is not a block's, else what is refused of the call
 abbrev pub on_buffer : Meaning → ℕ → ℕ → Option Refusal → Option Refusal
 on_buffer m b n refused = cond (n == block_size) refused (Some (own m BadBuffer b))
+
+-- the refusal of a call on block b with a buffer of n bytes that a member gives before all others, or none
+abbrev pub admission : Meaning → ℕ → ℕ → Option Refusal
+admission m b n = on_buffer m b n (on_block m b None)
+
+-- a good buffer and number, which are not refused so
+pub record Good (m : Meaning) (b n : ℕ) : Type 0 where
+  pub there : b < m.count
+  pub sized : n ≡ block_size
 
 -- 1 where the member is gone, then 2 where the block is unreadable
 abbrev pub get_refusal : Meaning → ℕ → Option Refusal

@@ -1,5 +1,5 @@
 -- Blocks that lie one after the other in a run of bytes: what the kinds at the bottom are made of.
-use Rattle.std.specs.Prelude.{◌≡◌, ℕ, ◌*◌, ◌/◌, min, true, false, cond, List, ◌++◌, length, take, drop, replicate, Some, None, nat_lt}
+use Rattle.std.specs.Prelude.{◌≡◌, ℕ, ◌+◌, ◌*◌, ◌/◌, ◌<◌, min, true, false, cond, List, ◌++◌, length, take, drop, replicate, Some, None, nat_lt}
 use Rattle.code.specs.Blocks.{Bytes, block_size}
 use Rattle.member.specs.Faults.{Origin}
 use Rattle.member.specs.Meaning.{Meaning, most_blocks, checked}
@@ -35,6 +35,13 @@ run_meaning n xs = record {
 -- the run after a write of v to block b of its first n: changed in that block alone, and only if the write is accepted
 abbrev pub run_wrote : ℕ → List ℕ → ℕ → List ℕ → List ℕ
 run_wrote n xs b v = checked (run_meaning n xs) b (length v) (pasted xs b v) xs
+
+-- Of n blocks, block b is there and lies from a to e, and the buffer of a call on it has as many bytes as a block.
+pub record Lies (n b m a e : ℕ) : Type 0 where
+  pub there : b < n
+  pub sized : m ≡ block_size
+  pub from : a ≡ b * block_size
+  pub to : e ≡ a + block_size
 
 -- A cell has 8 blocks.
 abbrev pub cell_blocks : ℕ

@@ -3,9 +3,9 @@
 ghost use Rattle.std.specs.Prelude.{◌≡◌, ℕ, ◌<◌, List, slice_index};
 ghost use Rattle.member.specs.Runs.{image_sound, image_meaning, image_wrote, RestKept};
 ghost use Rattle.member.specs.RunsLemmas.{image_lawful};
-ghost use Rattle.std.proofs.Common.{rules, arith};
+ghost use Rattle.std.proofs.Common.{refl};
 
-use crate::run::{bytes_of, count_in, look_in, read_in, write_in};
+use crate::run::{count_in, look_in, read_in, write_in};
 use crate::{Fault, MOST_BLOCKS, Member};
 
 #[derive(Drop)]
@@ -19,8 +19,7 @@ impl Image {
     pub fn new(buffer: Vec<u8>) -> Image
         ensures state { result.buffer ≡ buffer }
     {
-        bytes_of(&buffer);
-        Image { buffer }
+        Self { buffer }
     }
 
     // The buffer, with what was written.
@@ -49,7 +48,7 @@ impl Member for Image {
 
     ghost renewed = { λ s. s };
 
-    ghost holds = { first_of (Prim.search rules, Prim.grind (arith, Self.row.coded.inj)) };
+    ghost holds = { λ x. record { long = refl; bytes = x.low } };
 
     ghost lawful = { image_lawful };
 
@@ -79,8 +78,6 @@ impl Member for Image {
 }
 
 // What lies beyond the last block is given back as it was handed over.
-pub fn rest_kept() -> u8
+pub fn rest_kept()
     ensures stands { RestKept }
-{
-    0
-}
+{}

@@ -2,10 +2,13 @@
 // the kinds at the bottom of every stack of layers.
 #![tactic(auto)]
 
-ghost use Rattle.std.specs.Prelude.{◌≡◌, ℕ, List, length};
-ghost use Rattle.member.specs.Faults.{cause_number, refusal, refused_with, ToldApart};
+ghost use Rattle.std.specs.Prelude.{◌≡◌, ℕ, List, length, Some, decimal};
+ghost use Rattle.member.specs.Faults.{cause_number, numbers, fault_text, refusal, refused_with, ToldApart};
 ghost use Rattle.member.specs.Meaning.{Meaning, look_refusal, read_refusal, write_refusal, handed};
 ghost use Rattle.member.specs.Changes.{Written, Ticked, Renewed, Lawful};
+
+use std::error::Error;
+use std::fmt;
 
 pub mod cell;
 pub mod image;
@@ -40,7 +43,7 @@ pub struct Fault {
 }
 
 impl Cause {
-    // The number by which the cause is known.
+    // The number by which the cause is known. It has a name and is no `From`, since a `u8` alone does not say what it counts.
     pub fn number(self) -> u8
         ensures value { result ≡ cause_number self }
     {
@@ -55,22 +58,46 @@ impl Cause {
     }
 }
 
+// A cause is printed as its number.
+impl fmt::Display for Cause {
+    ghost output = { λ c. Some (decimal (cause_number c)) };
+
+    fn fmt<W: fmt::Write>(&self, f: &mut fmt::Formatter<W>) -> fmt::Result {
+        let number = self.number();
+        write!(f, "{number}")
+    }
+}
+
+// A fault is printed as its cause, its height and its block.
+impl fmt::Display for Fault {
+    ghost output = { λ x. Some (fault_text (numbers x)) };
+
+    fn fmt<W: fmt::Write>(&self, f: &mut fmt::Formatter<W>) -> fmt::Result {
+        let Fault {
+            cause,
+            height,
+            block,
+        } = *self;
+        write!(f, "{cause} {height} {block}")
+    }
+}
+
+impl Error for Fault {}
+
 // Whether a call was refused with this cause.
 pub fn refused_with(answer: &Result<(), Fault>, cause: Cause) -> bool
     ensures value { result ≡ refused_with (cause_number cause) (refusal answer.now) }
 {
     match answer {
         Ok(()) => false,
-        Err(fault) => fault.cause.number() == cause.number(),
+        Err(fault) => fault.cause == cause,
     }
 }
 
 // Promises in numbers leave nothing of a fault open.
-pub fn faults_told_apart() -> u8
+pub fn faults_told_apart()
     ensures stands { ToldApart }
-{
-    0
-}
+{}
 
 // A member. Every kind and layer tests the buffer and then the block number itself and refuses them at its own height with the
 // number asked; then a member that is gone refuses, then a block that is unreadable at a read or not writable at a write.

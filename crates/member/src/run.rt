@@ -1,14 +1,16 @@
-// Blocks that lie one after the other in a run of bytes. Of a run its whole blocks count, at most as many as the caller says.
-ghost use Rattle.std.specs.Prelude.{◌≡◌, ℕ, ◌<◌, length, slice_index};
+// Blocks that lie one after the other in a run of bytes. Of a run its whole blocks count, at most as many as the caller says. The
+// run and that limit stay two parameters: a struct of both would be two structs, one that lends the run and one that changes it.
+ghost use Rattle.std.specs.Prelude.{◌≡◌, ℕ, ◌<◌, length, IfOk, slice_index};
 ghost use Rattle.member.specs.Faults.{numbers, refusal, raised as raised_from};
 ghost use Rattle.member.specs.Meaning.{look_refusal, read_refusal, write_refusal, handed};
-ghost use Rattle.member.specs.Runs.{bottom_origin, whole_blocks, run_meaning, run_wrote};
+ghost use Rattle.member.specs.Runs.{bottom_origin, whole_blocks, run_meaning, run_wrote, Lies};
 
 use crate::{Cause, Fault};
 use code::BLOCK;
+use std::ops::Range;
 
-// A fault that a kind at the bottom raises.
-fn raised(cause: Cause, block: usize) -> Fault
+// A fault at height 0, as a kind at the bottom raises it.
+pub fn raised(cause: Cause, block: usize) -> Fault
     ensures value { numbers result ≡ raised_from cause (bottom_origin block) }
 {
     Fault {
@@ -35,19 +37,26 @@ pub fn look_in(run: &[u8], most: usize, block: usize) -> Result<(), Fault>
     Err(raised(Cause::NoBlock, block))
 }
 
+// Where a block lies, if a call on it with a buffer of so many bytes is good.
+fn place_in(run: &[u8], most: usize, block: usize, size: usize) -> Result<Range<usize>, Fault>
+    ensures answered { refusal result ≡ read_refusal (run_meaning (whole_blocks most run.now) run.now) block size }
+    ensures found { IfOk result (λ r. Lies (whole_blocks most run.now) block size r.start r.end) }
+{
+    if size != BLOCK {
+        return Err(raised(Cause::BadBuffer, block));
+    }
+    look_in(run, most, block)?;
+    let from = block * BLOCK;
+    Ok(from..from + BLOCK)
+}
+
 // Copies a block into the buffer.
 pub fn read_in(run: &[u8], most: usize, block: usize, buffer: &mut [u8]) -> Result<(), Fault>
     ensures answered { refusal result ≡ read_refusal (run_meaning (whole_blocks most run.now) run.now) block (length buffer.old) }
     ensures after { buffer.new ≡ handed (run_meaning (whole_blocks most run.now) run.now) block buffer.old }
 {
-    if buffer.len() != BLOCK {
-        return Err(raised(Cause::BadBuffer, block));
-    }
-    if block >= count_in(run, most) {
-        return Err(raised(Cause::NoBlock, block));
-    }
-    let from = block * BLOCK;
-    buffer.copy_from_slice(&run[from..from + BLOCK]);
+    let at = place_in(run, most, block, buffer.len())?;
+    buffer.copy_from_slice(&run[at]);
     Ok(())
 }
 
@@ -57,22 +66,12 @@ pub fn write_in(run: &mut [u8], most: usize, block: usize, bytes: &[u8]) -> Resu
     ensures after { run.new ≡ run_wrote (whole_blocks most run.old) run.old block bytes.now }
     ensures low { ((i : ℕ) → slice_index run.old i < 256) → (i : ℕ) → slice_index run.new i < 256 }
 {
-    if bytes.len() != BLOCK {
-        return Err(raised(Cause::BadBuffer, block));
-    }
-    if block >= count_in(run, most) {
-        return Err(raised(Cause::NoBlock, block));
-    }
-    let to = block * BLOCK;
-    run[to..to + BLOCK].copy_from_slice(bytes);
+    let at = place_in(run, most, block, bytes.len())?;
+    run[at].copy_from_slice(bytes);
     Ok(())
 }
 
 // Tells a caller's proof that what a slice holds are bytes.
 pub fn bytes_of(run: &[u8])
     ensures low { (i : ℕ) → slice_index run.now i < 256 }
-{
-    if run.len() > 0 {
-        let _first = run[0];
-    }
-}
+{}

@@ -1,12 +1,11 @@
 // The remap layer: a member over any other, whose last blocks are spares. A block that refuses a write is moved to a spare.
 #![tactic(auto)]
 
-ghost use Rattle.std.specs.Prelude.{◌≡◌, ◌<◌, ◌≤◌, length, Some};
-ghost use Rattle.code.specs.Blocks.{block_size};
-ghost use Rattle.member.specs.Faults.{refusal};
-ghost use Rattle.member.specs.Meaning.{most_blocks, own, put_refusal};
+ghost use Rattle.std.specs.Prelude.{◌≡◌, ◌≤◌, length, IfOk};
+ghost use Rattle.member.specs.Faults.{numbers, refusal};
+ghost use Rattle.member.specs.Meaning.{most_blocks, own, admission, Good, put_refusal};
 ghost use Rattle.remap.specs.Places.{table_of, unmoved, kept_back, place, left};
-ghost use Rattle.remap.specs.Remapped.{remap_at, remapped, own_count, Layer, layer, LayerSound, layer_meaning, layer_seen, layer_wrote, layer_ticked, layer_renewed, tries};
+ghost use Rattle.remap.specs.Remapped.{remapped, own_count, Layer, layer, LayerSound, layer_meaning, layer_seen, layer_wrote, layer_ticked, layer_renewed, tries};
 ghost use Rattle.remap.specs.Rules.{PlacesApart, MovesToLowest};
 ghost use Rattle.remap.specs.Tables.{table_within};
 ghost use Rattle.remap.specs.Laws.{layer_lawful};
@@ -47,11 +46,9 @@ impl<M: Member> Remap<M> {
     }
 
     // A block that a write moves goes to the lowest spare that takes the write.
-    pub fn moves_to_lowest(&self) -> u8
+    pub fn moves_to_lowest(&self)
         ensures stands { MovesToLowest M.Member.meaning M.Member.sound M.Member.wrote }
-    {
-        0
-    }
+    {}
 
     // How many blocks the layer has, which is also where its first spare stands below.
     fn first(&self) -> usize
@@ -62,44 +59,55 @@ impl<M: Member> Remap<M> {
     }
 
     // Where a block stands below.
-    fn place(&self, first: usize, block: usize) -> usize
-        requires few { first ≤ most_blocks }
-        ensures value { result ≡ place (table_of self.now.moves) first block }
+    fn place(&self, block: usize) -> usize
+        ensures value { result ≡ place (table_of self.now.moves) (own_count (table_of self.now.moves) (M.Member.meaning (M.Member.state self.now.below))) block }
     {
         match self.moves.given(block) {
-            Some(spare) => first + spare,
+            Some(spare) => self.first() + spare,
             None => block,
         }
     }
 
     // A fault that the layer raises itself.
-    fn refuse(&self, cause: Cause, block: usize) -> Result<(), Fault>
-        ensures answered { refusal result ≡ Some (own (remapped (table_of self.now.moves) (M.Member.meaning (M.Member.state self.now.below))) cause block) }
+    fn own(&self, cause: Cause, block: usize) -> Fault
+        ensures value { numbers result ≡ own (remapped (table_of self.now.moves) (M.Member.meaning (M.Member.state self.now.below))) cause block }
     {
-        Err(Fault {
+        Fault {
             cause,
             height: self.height(),
             block,
-        })
+        }
+    }
+
+    // Refuses a buffer of so many bytes that is not a block's, and then a block that there is not.
+    fn admit(&self, block: usize, size: usize) -> Result<(), Fault>
+        ensures answered { refusal result ≡ admission (remapped (table_of self.now.moves) (M.Member.meaning (M.Member.state self.now.below))) block size }
+        ensures good { IfOk result (λ _. Good (remapped (table_of self.now.moves) (M.Member.meaning (M.Member.state self.now.below))) block size) }
+    {
+        if size != BLOCK {
+            return Err(self.own(Cause::BadBuffer, block));
+        }
+        if block >= self.first() {
+            return Err(self.own(Cause::NoBlock, block));
+        }
+        Ok(())
     }
 
     // Writes a block where it stands, or at the next spare that takes it.
-    fn put(&mut self, first: usize, block: usize, bytes: &[u8]) -> Result<(), Fault>
-        requires first { first ≡ own_count (table_of self.old.moves) (M.Member.meaning (M.Member.state self.old.below)) }
-        requires few { first ≤ most_blocks }
-        requires there { block < first }
-        requires sized { length bytes.now ≡ block_size }
-        ensures answered { refusal result ≡ put_refusal (remap_at (table_of self.old.moves) first (M.Member.meaning (M.Member.state self.old.below))) block }
-        ensures exact { layer (M.Member.state self.new.below) (table_of self.new.moves) ≡ tries M.Member.meaning M.Member.wrote first block bytes.now (left (table_of self.old.moves)) (M.Member.state self.old.below) (table_of self.old.moves) }
+    fn put(&mut self, block: usize, bytes: &[u8]) -> Result<(), Fault>
+        requires good { Good (remapped (table_of self.old.moves) (M.Member.meaning (M.Member.state self.old.below))) block (length bytes.now) }
+        ensures answered { refusal result ≡ put_refusal (remapped (table_of self.old.moves) (M.Member.meaning (M.Member.state self.old.below))) block }
+        ensures exact { layer (M.Member.state self.new.below) (table_of self.new.moves) ≡ tries M.Member.meaning M.Member.wrote (own_count (table_of self.old.moves) (M.Member.meaning (M.Member.state self.old.below))) block bytes.now (left (table_of self.old.moves)) (M.Member.state self.old.below) (table_of self.old.moves) }
     {
-        let mut at = self.place(first, block);
+        let first = self.first();
+        let mut at = self.place(block);
         loop {
             let answer = self.below.write(at, bytes);
             if !refused_with(&answer, Cause::Unwritable) {
                 return answer;
             }
             let Some(spare) = self.moves.take(block) else {
-                return self.refuse(Cause::Unwritable, block);
+                return Err(self.own(Cause::Unwritable, block));
             };
             at = first + spare;
         }
@@ -137,35 +145,20 @@ impl<M: Member> Member for Remap<M> {
     }
 
     fn look(&self, block: usize) -> Result<(), Fault> {
-        let first = self.first();
-        if block >= first {
-            return self.refuse(Cause::NoBlock, block);
-        }
-        let at = self.place(first, block);
+        self.admit(block, BLOCK)?;
+        let at = self.place(block);
         self.below.look(at)
     }
 
     fn read(&mut self, block: usize, buffer: &mut [u8]) -> Result<(), Fault> {
-        if buffer.len() != BLOCK {
-            return self.refuse(Cause::BadBuffer, block);
-        }
-        let first = self.first();
-        if block >= first {
-            return self.refuse(Cause::NoBlock, block);
-        }
-        let at = self.place(first, block);
+        self.admit(block, buffer.len())?;
+        let at = self.place(block);
         self.below.read(at, buffer)
     }
 
     fn write(&mut self, block: usize, bytes: &[u8]) -> Result<(), Fault> {
-        if bytes.len() != BLOCK {
-            return self.refuse(Cause::BadBuffer, block);
-        }
-        let first = self.first();
-        if block >= first {
-            return self.refuse(Cause::NoBlock, block);
-        }
-        self.put(first, block, bytes)
+        self.admit(block, bytes.len())?;
+        self.put(block, bytes)
     }
 
     fn tick(&mut self) {
@@ -179,8 +172,6 @@ impl<M: Member> Member for Remap<M> {
 }
 
 // No two blocks stand at one place, whatever was moved.
-pub fn places_apart() -> u8
+pub fn places_apart()
     ensures stands { PlacesApart }
-{
-    0
-}
+{}

@@ -6,7 +6,8 @@ pub mod acts;
 // How many spares a layer has at most.
 pub const MOST_SPARES: usize = 16;
 
-// Spare i, of the first `used`, was given to block from[i]; a block stands at the last that it was given.
+// Spare i, of the first `used`, was given to block from[i]; a block stands at the last that it was given. The table is of fixed size,
+// with a length beside it: there are at most 16 spares, and the layers use no heap.
 #[derive(Drop)]
 pub struct Moves {
     spares: usize,

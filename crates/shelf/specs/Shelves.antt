@@ -37,12 +37,9 @@ abbrev pub shelf_wrote : Shelved → ℕ → ℕ → List ℕ → Shelved
 shelf_wrote s i b v =
     cond (nat_lt i s.images) (shelved (with_part s.bytes s.images i (image_wrote (part s.bytes s.images i) b v)) s.images) s
 
--- Image i lies in the buffer from a to e, and its block b is there, of as many bytes as the call's buffer of m.
-pub record Found (xs : List ℕ) (n i b m a e : ℕ) : Type 0 where
+-- Image i of n is there, and lies in the buffer from a to e.
+pub record Placed (xs : List ℕ) (n i a e : ℕ) : Type 0 where
   pub slot : i < n
   pub from : a ≡ i * span xs n
   pub to : e ≡ a + span xs n
   pub within : e ≤ length xs
-  pub low : b < (image_meaning (part xs n i)).count
-  pub block : b * block_size + block_size ≤ span xs n
-  pub sized : m ≡ block_size

@@ -8,7 +8,7 @@ use member::cell::Cell;
 use member::image::Image;
 use remap::Remap;
 use shelf::Shelf;
-use std::alloc::Global;
+use std::alloc::{AllocError, Global};
 
 // A stack over a cell, a stack over an image, and a shelf.
 type Mixed = Link<Stack<Cell>, Link<Stack<Image>, Shelf>>;
@@ -73,7 +73,7 @@ const MIXED: [Step; 51] = [
 ];
 
 // Remap layers that are asked for more spares than there can be.
-fn show_many_spares(heap: Global, out: &mut String) -> anyhow::Result<()> {
+fn show_many_spares(heap: Global, out: &mut String) -> Result<(), AllocError> {
     push_heading(
         out,
         "100 spares count as 16: no block is left of a cell, and 4 of an image of 20 blocks",
@@ -100,7 +100,7 @@ fn show_many_spares(heap: Global, out: &mut String) -> anyhow::Result<()> {
 }
 
 // The bank of all kinds, with entries in both stacks.
-fn mixed(heap: Global, out: &mut String) -> anyhow::Result<Mixed> {
+fn mixed(heap: Global, out: &mut String) -> Result<Mixed, AllocError> {
     push_heading(
         out,
         "a bank of a stack over a cell, a stack over an image of 4 blocks and 100 bytes, and a shelf of 3 images in 3700 bytes",
@@ -120,7 +120,7 @@ fn mixed(heap: Global, out: &mut String) -> anyhow::Result<Mixed> {
 }
 
 // The buffers of the image and of the shelf, after all calls.
-fn show_buffers(out: &mut String, bank: Mixed) -> anyhow::Result<()> {
+fn show_buffers(out: &mut String, bank: Mixed) -> Result<(), AllocError> {
     push_heading(
         out,
         "the buffers handed back, one byte of every 512: of the image, and of the shelf",
@@ -138,7 +138,7 @@ fn show_buffers(out: &mut String, bank: Mixed) -> anyhow::Result<()> {
 }
 
 // Banks in which no slot is there.
-fn show_without_slots(heap: Global, out: &mut String) -> anyhow::Result<()> {
+fn show_without_slots(heap: Global, out: &mut String) -> Result<(), AllocError> {
     push_heading(
         out,
         "banks without slots: a shelf of no images, and the end of a chain",
@@ -151,7 +151,7 @@ fn show_without_slots(heap: Global, out: &mut String) -> anyhow::Result<()> {
 }
 
 // Appends the lines of all banks.
-pub(crate) fn show(heap: Global, out: &mut String) -> anyhow::Result<()> {
+pub(crate) fn show(heap: Global, out: &mut String) -> Result<(), AllocError> {
     show_many_spares(heap, out)?;
     let mut bank = mixed(heap, out)?;
     push_len(out, &bank)?;

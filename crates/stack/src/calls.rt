@@ -1,20 +1,21 @@
 // Calls on the members of a bank, and the line that each leaves: what was called, and what it answered.
 ghost use Rattle.std.specs.Prelude.{◌≡◌, ◌++◌, string_bytes, OnOk};
-ghost use Rattle.member.specs.Faults.{numbers};
 ghost use Rattle.bank.specs.Slots.{bank_refusal};
 ghost use Rattle.faultplan.specs.Plans.{add_answer};
-ghost use Rattle.stack.specs.Lines.{fault_text, answer_text, add_line};
+ghost use Rattle.stack.specs.Lines.{answer_output, answer_line, add_line};
 
 use bank::{Bank, BankFault};
 use faultplan::plan::PlanRefusal;
 use faulty::FaultLayer;
 use member::Member;
-use std::alloc::Global;
+use std::alloc::{AllocError, Global};
+use std::fmt;
 
 // What every buffer holds before a read, so that a refused read shows that it left the buffer.
 const BEFORE: u8 = 99;
 
-// A call on the member in a slot.
+// A call on the member in a slot. The calls of a table are values and no closures: a closure would be made for one kind of bank, and
+// a table of them would keep boxed ones.
 #[derive(Clone, Copy)]
 pub(crate) enum Call {
     Count,
@@ -35,37 +36,18 @@ pub(crate) enum Step {
     On(usize, Call),
 }
 
-// Appends the answer of a call: 0, or the fault's cause, height and block.
-fn push_answer(out: &mut String, answer: Result<(), BankFault>) -> anyhow::Result<()>
-    ensures made { OnOk result (string_bytes out.new ≡ string_bytes out.old ++ answer_text (bank_refusal answer)) }
-{
-    match answer {
-        Ok(()) => {
-            out.push_str("0")?;
-            Ok(())
+// What a call answered, as a line says it: 0 where it was accepted, else its refusal.
+#[derive(Drop)]
+struct Answer<E>(Result<(), E>);
+
+impl<E: fmt::Display> fmt::Display for Answer<E> {
+    ghost output = { λ a. answer_output E.output a.0 };
+
+    fn fmt<W: fmt::Write>(&self, f: &mut fmt::Formatter<W>) -> fmt::Result {
+        match &self.0 {
+            Ok(()) => write!(f, "0"),
+            Err(refused) => write!(f, "{refused}"),
         }
-        Err(refused) => push_fault(out, refused),
-    }
-}
-
-// Appends the cause, the height and the block of a fault.
-fn push_fault(out: &mut String, refused: BankFault) -> anyhow::Result<()>
-    ensures made { OnOk result (string_bytes out.new ≡ string_bytes out.old ++ fault_text (numbers refused.fault)) }
-{
-    let cause = refused.fault.cause.number();
-    let height = refused.fault.height;
-    let block = refused.fault.block;
-    write!(out, "{cause} {height} {block}")?;
-    Ok(())
-}
-
-// 0 for an entry that was added, else the number of the refusal.
-fn add_number(answer: Result<(), PlanRefusal>) -> u8
-    ensures value { result ≡ add_answer answer }
-{
-    match answer {
-        Ok(()) => 0,
-        Err(refused) => refused.number(),
     }
 }
 
@@ -76,12 +58,24 @@ fn push_add(
     kind: usize,
     block: usize,
     answer: Result<(), PlanRefusal>,
-) -> anyhow::Result<()>
+) -> Result<(), AllocError>
     ensures made { OnOk result (string_bytes out.new ≡ string_bytes out.old ++ add_line round kind block (add_answer answer)) }
 {
-    let number = add_number(answer);
-    writeln!(out, "add {round} {kind} {block}: {number}")?;
-    Ok(())
+    let answer = Answer(answer);
+    writeln!(out, "add {round} {kind} {block}: {answer}")
+}
+
+// Appends the line of a call, of this name, that has no answer but its refusal.
+fn push_answer(
+    out: &mut String,
+    slot: usize,
+    name: &str,
+    answer: Result<(), BankFault>,
+) -> Result<(), AllocError>
+    ensures made { OnOk result (string_bytes out.new ≡ string_bytes out.old ++ answer_line slot name.now (bank_refusal answer)) }
+{
+    let answer = Answer(answer);
+    writeln!(out, "slot {slot} {name}: {answer}")
 }
 
 // Appends the line of a member's count of blocks.
@@ -89,14 +83,11 @@ fn push_count(
     out: &mut String,
     slot: usize,
     answer: Result<usize, BankFault>,
-) -> anyhow::Result<()> {
-    write!(out, "slot {slot} count: ")?;
+) -> Result<(), AllocError> {
     match answer {
-        Ok(blocks) => write!(out, "0, {blocks} blocks")?,
-        Err(refused) => push_fault(out, refused)?,
+        Ok(blocks) => writeln!(out, "slot {slot} count: 0, {blocks} blocks"),
+        Err(refused) => writeln!(out, "slot {slot} count: {refused}"),
     }
-    out.push_str("\n")?;
-    Ok(())
 }
 
 // Reads a block into a buffer, and appends the line: the answer, and the buffer's first byte, if it has one.
@@ -107,16 +98,16 @@ fn push_read<B: Bank>(
     slot: usize,
     block: usize,
     size: usize,
-) -> anyhow::Result<()> {
+) -> Result<(), AllocError> {
     let mut buffer = vec![in heap; BEFORE; size]?;
-    let answer = bank.read(slot, block, &mut buffer);
-    write!(out, "slot {slot} read {block} {size}: ")?;
-    push_answer(out, answer)?;
-    if let Some(byte) = buffer.first() {
-        write!(out, ", byte {byte}")?;
+    let answer = Answer(bank.read(slot, block, &mut buffer));
+    match buffer.first() {
+        Some(byte) => writeln!(
+            out,
+            "slot {slot} read {block} {size}: {answer}, byte {byte}"
+        ),
+        None => writeln!(out, "slot {slot} read {block} {size}: {answer}"),
     }
-    out.push_str("\n")?;
-    Ok(())
 }
 
 // Writes a block of so many equal bytes, and appends the line.
@@ -128,13 +119,10 @@ fn push_write<B: Bank>(
     block: usize,
     size: usize,
     byte: u8,
-) -> anyhow::Result<()> {
+) -> Result<(), AllocError> {
     let bytes = vec![in heap; byte; size]?;
-    let answer = bank.write(slot, block, &bytes);
-    write!(out, "slot {slot} write {block} {size} {byte}: ")?;
-    push_answer(out, answer)?;
-    out.push_str("\n")?;
-    Ok(())
+    let answer = Answer(bank.write(slot, block, &bytes));
+    writeln!(out, "slot {slot} write {block} {size} {byte}: {answer}")
 }
 
 // Makes a call on the member in a slot, and appends its line.
@@ -144,29 +132,17 @@ fn push_call<B: Bank>(
     bank: &mut B,
     slot: usize,
     call: Call,
-) -> anyhow::Result<()> {
+) -> Result<(), AllocError> {
     match call {
         Call::Count => push_count(out, slot, bank.count(slot)),
         Call::Look(block) => {
-            write!(out, "slot {slot} look {block}: ")?;
-            push_answer(out, bank.look(slot, block))?;
-            out.push_str("\n")?;
-            Ok(())
+            let answer = Answer(bank.look(slot, block));
+            writeln!(out, "slot {slot} look {block}: {answer}")
         }
         Call::Read(block, size) => push_read(heap, out, bank, slot, block, size),
         Call::Write(block, size, byte) => push_write(heap, out, bank, slot, block, size, byte),
-        Call::Tick => {
-            write!(out, "slot {slot} tick: ")?;
-            push_answer(out, bank.tick(slot))?;
-            out.push_str("\n")?;
-            Ok(())
-        }
-        Call::Fresh => {
-            write!(out, "slot {slot} fresh: ")?;
-            push_answer(out, bank.fresh(slot))?;
-            out.push_str("\n")?;
-            Ok(())
-        }
+        Call::Tick => push_answer(out, slot, "tick", bank.tick(slot)),
+        Call::Fresh => push_answer(out, slot, "fresh", bank.fresh(slot)),
     }
 }
 
@@ -176,7 +152,7 @@ pub(crate) fn drive<B: Bank>(
     out: &mut String,
     bank: &mut B,
     steps: &[Step],
-) -> anyhow::Result<()> {
+) -> Result<(), AllocError> {
     for step in steps {
         match *step {
             Step::Why(heading) => push_heading(out, heading)?,
@@ -191,28 +167,26 @@ pub(crate) fn plan<M: Member>(
     out: &mut String,
     layer: &mut FaultLayer<M>,
     entries: &[(usize, usize, usize)],
-) -> anyhow::Result<()> {
-    for (round, kind, block) in entries {
-        push_add(out, *round, *kind, *block, layer.add(*round, *kind, *block))?;
+) -> Result<(), AllocError> {
+    for &(round, kind, block) in entries {
+        push_add(out, round, kind, block, layer.add(round, kind, block))?;
     }
     Ok(())
 }
 
 // Appends a heading: why the lines below it are as they are.
-pub(crate) fn push_heading(out: &mut String, heading: &str) -> anyhow::Result<()> {
-    writeln!(out, "# {heading}")?;
-    Ok(())
+pub(crate) fn push_heading(out: &mut String, heading: &str) -> Result<(), AllocError> {
+    writeln!(out, "# {heading}")
 }
 
 // Appends how many slots a bank has.
-pub(crate) fn push_len<B: Bank>(out: &mut String, bank: &B) -> anyhow::Result<()> {
+pub(crate) fn push_len<B: Bank>(out: &mut String, bank: &B) -> Result<(), AllocError> {
     let len = bank.len();
-    writeln!(out, "bank of {len}")?;
-    Ok(())
+    writeln!(out, "bank of {len}")
 }
 
 // Appends how many bytes a buffer has, and the first of every 512.
-pub(crate) fn push_buffer(out: &mut String, buffer: &[u8]) -> anyhow::Result<()> {
+pub(crate) fn push_buffer(out: &mut String, buffer: &[u8]) -> Result<(), AllocError> {
     let len = buffer.len();
     write!(out, "{len} bytes:")?;
     for block in buffer.chunks(512) {
@@ -220,6 +194,5 @@ pub(crate) fn push_buffer(out: &mut String, buffer: &[u8]) -> anyhow::Result<()>
             write!(out, " {byte}")?;
         }
     }
-    out.push_str("\n")?;
-    Ok(())
+    writeln!(out)
 }

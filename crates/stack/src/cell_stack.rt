@@ -3,7 +3,7 @@ use crate::builds::{single, stack};
 use crate::calls::{Call, Step, drive, plan, push_heading};
 use faulty::FaultLayer;
 use member::cell::Cell;
-use std::alloc::Global;
+use std::alloc::{AllocError, Global};
 
 // Entries of round, kind and block, one more than there are places.
 const ENTRIES: [(usize, usize, usize); 17] = [
@@ -122,7 +122,7 @@ const STEPS: [Step; 79] = [
 ];
 
 // Appends the lines of all rounds.
-pub(crate) fn show(heap: Global, out: &mut String) -> anyhow::Result<()> {
+pub(crate) fn show(heap: Global, out: &mut String) -> Result<(), AllocError> {
     push_heading(
         out,
         "remap with 2 spares over a fault layer over a cell: sixteen entries of round, kind and block, and one too many",

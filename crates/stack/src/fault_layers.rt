@@ -5,7 +5,7 @@ use bank::Bank;
 use faulty::FaultLayer;
 use member::Member;
 use member::cell::Cell;
-use std::alloc::Global;
+use std::alloc::{AllocError, Global};
 
 // The calls after entries were added in round 1.
 const LATE: [Step; 14] = [
@@ -74,7 +74,7 @@ const DOUBLE: [Step; 24] = [
 ];
 
 // Entries of a past, the present and a later round, and then more than there are places.
-fn show_single(heap: Global, out: &mut String) -> anyhow::Result<()> {
+fn show_single(heap: Global, out: &mut String) -> Result<(), AllocError> {
     push_heading(
         out,
         "a fault layer over a cell, after one tick: an entry of this round is active at once, one of a past round never",
@@ -95,7 +95,7 @@ fn show_single(heap: Global, out: &mut String) -> anyhow::Result<()> {
 }
 
 // A layer over another, each with entries of its own.
-fn show_double(heap: Global, out: &mut String) -> anyhow::Result<()> {
+fn show_double(heap: Global, out: &mut String) -> Result<(), AllocError> {
     push_heading(
         out,
         "a fault layer over another: the entries of the lower, height 1, and then of the upper, height 2",
@@ -119,7 +119,7 @@ fn wait<M: Member>(member: &mut M, ticks: usize) {
 }
 
 // The last round, which every later tick stays in.
-fn show_last_round(heap: Global, out: &mut String) -> anyhow::Result<()> {
+fn show_last_round(heap: Global, out: &mut String) -> Result<(), AllocError> {
     push_heading(
         out,
         "the count of ticks stops at 65535: an entry of that round, before it and from then on",
@@ -149,7 +149,7 @@ fn show_last_round(heap: Global, out: &mut String) -> anyhow::Result<()> {
 }
 
 // Appends the lines of all fault layers.
-pub(crate) fn show(heap: Global, out: &mut String) -> anyhow::Result<()> {
+pub(crate) fn show(heap: Global, out: &mut String) -> Result<(), AllocError> {
     show_single(heap, out)?;
     show_double(heap, out)?;
     show_last_round(heap, out)

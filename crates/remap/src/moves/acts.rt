@@ -30,13 +30,9 @@ impl Moves {
         ensures value { result ≡ given (table_of self.now).moves block }
         ensures few { unwrap_or result 0 ≤ 16 }
     {
-        let mut spare = None;
-        for i in 0..self.used {
-            if self.from[i] == block {
-                spare = Some(i);
-            }
-        }
-        spare
+        self.from[..self.used]
+            .iter()
+            .rposition(|from| *from == block)
     }
 
     // Gives the lowest spare never used to the block, and answers it; none, and no change, if all were used.
@@ -48,9 +44,7 @@ impl Moves {
             return None;
         }
         let spare = self.used;
-        let mut from = self.from;
-        from[spare] = block;
-        self.from = from;
+        self.from[spare] = block;
         self.used = spare + 1;
         Some(spare)
     }

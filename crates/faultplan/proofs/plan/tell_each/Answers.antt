@@ -1,7 +1,6 @@
-use Rattle.std.proofs.Common.{◌≡◌, ℕ, ◌+◌, ◌<◌, ◌≤◌, List, ◌++◌, map, length, take, drop, set, sym, ◌∙◌, subst, arith, length-set}
+use Rattle.std.proofs.Common.{◌≡◌, ◌+◌, ◌<◌, ◌++◌, map, length, take, drop, set, sym, ◌∙◌, subst, arith, length-set}
 use Rattle.std.proofs.lemmas.List.Edits.{map_over_more}
-use Rattle.std.proofs.lemmas.List.{take_all, drop_all, append-nil, get_or_default}
-use Rattle.faultplan.specs.declared.entry.Entry.{Entry}
+use Rattle.std.proofs.lemmas.List.{get_or_default}
 use Rattle.faultplan.specs.Entries.{after}
 use Rattle.faultplan.proofs.plan.tell_each.Goals as goal
 
@@ -17,11 +16,3 @@ loop-entry-preserved c =
           (map_over_more f xs ys i _ lt c.loop-entry.invariant.0 (get_or_default ys i _ _ ly)),
       length-set ys i _ ∙ c.loop-entry.invariant.1,
     )
-
-all_told : (f : Entry → Entry) (xs ys : List Entry) (i : ℕ) → length xs ≤ i → ys ≡ map f (take i xs) ++ drop i xs → ys ≡ map f xs
-all_told f xs ys i le e = e ∙ rw (take_all i xs le, drop_all i xs le) (append-nil (map f xs))
-
-pub returns : goal.returns
-returns c = record {
-  after = all_told (after c.args.event) c.args.entries.now c.loop-entry.entries c.loop-entry.entry-index (omega arith) c.loop-entry.invariant.0;
-}

@@ -1,7 +1,7 @@
 use Rattle.std.proofs.Common.{sym, subst}
 use Rattle.member.specs.Changes.{Renewed}
 use Rattle.faultplan.specs.Layers.{planned, layer_meaning}
-use Rattle.faultplan.proofs.Layers.{layer_lawful}
+use Rattle.faultplan.proofs.Layers.{layer_lawful, same_planned}
 use Rattle.faulty.proofs.FaultLayerMember.fresh.Goals as goal
 
 pub returns : goal.returns
@@ -10,7 +10,7 @@ returns g c =
     let self = c.args.self.now in
     let x = planned (M.state self.below) self.plan in
     let law = layer_lawful M.sound M.meaning M.seen M.wrote M.ticked M.renewed g.met.M.Member.lawful in
-    let exact = c.renew.ensures.exact in
+    let exact = same_planned c.fresh.ensures.exact c.tell.ensures.after in
     record {
       exact = exact;
       after =

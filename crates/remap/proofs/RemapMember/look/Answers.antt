@@ -10,6 +10,6 @@ returns g c =
     record {
       answered =
           c.look.ensures.answered
-          ∙ look_through (table_of s.moves) (g.M.Member.meaning (g.M.Member.state s.below)) (table_within s.moves) c.args.block
-          c.first-first.result c.first-first.ensures.value c.if-block-first.false c.place-at.result c.place-at.ensures.value;
+          ∙ look_through (table_of s.moves) (g.M.Member.meaning (g.M.Member.state s.below)) (table_within s.moves) c.args.block _
+          c.in_ok-admit.ensures.good _ c.place-at.ensures.value;
     }

@@ -1,19 +1,15 @@
-use Rattle.std.proofs.Common.{◌≡◌, length, sym, ap, ◌∙◌, subst, arith}
-use Rattle.member.specs.Meaning.{write_refusal}
+use Rattle.std.proofs.Common.{sym, subst, arith}
+use Rattle.std.proofs.lemmas.Grind.{common_steps}
 use Rattle.member.specs.Changes.{Written}
-use Rattle.member.specs.Runs.{whole_blocks, run_meaning, run_wrote, cell_meaning}
+use Rattle.member.specs.Runs.{cell_meaning}
 use Rattle.member.specs.RunsLemmas.{cell_writes}
 use Rattle.member.proofs.cell.CellMember.write.Goals as goal
 
-pub returns : goal.returns
-returns c =
-    let xs = c.args.self.now.bytes in
-    let b = c.args.block in
-    let v = c.args.bytes.now in
-    let eight : whole_blocks 8 xs ≡ 8 = omega (arith, c.args.self.now.long) in
-    let exact : c.write_in.new.run ≡ run_wrote 8 xs b v = c.write_in.ensures.after ∙ ap (λ n. run_wrote n xs b v) eight in
-    record {
-      answered = c.write_in.ensures.answered ∙ ap (λ n. write_refusal (run_meaning n xs) b (length v)) eight;
-      exact = exact;
-      after = subst (λ ys. Written (cell_meaning xs) b v (cell_meaning ys)) (sym exact) (cell_writes xs c.args.self.now.long b v);
-    }
+pub returns-clause-exact : goal.returns-clause-exact
+returns-clause-exact c = grind (arith, common_steps)
+
+pub returns-clause-after : goal.returns-clause-after
+returns-clause-after c =
+    let x = c.args.self.now in
+    subst (λ ys. Written (cell_meaning x.bytes) c.args.block c.args.bytes.now (cell_meaning ys)) (sym (returns-clause-exact c))
+    (cell_writes x.bytes x.long c.args.block c.args.bytes.now)
