@@ -1,14 +1,15 @@
 -- The table of products as text.
-use Rattle.std.specs.Prelude.{ℕ, zero, suc, ◌+◌, ◌/◌, ◌%◌, cond, List, [], ◌∷◌, ◌++◌, nat_lt}
+use Rattle.std.specs.Prelude.{ℕ, zero, suc, List, [], ◌∷◌, ◌++◌}
+use Rattle.notation.specs.Numbers.{hex_digit, hex_byte}
 use Rattle.field.specs.Field.{times}
 
 -- the lower-case hexadecimal digit of a number below 16
 abbrev pub digit : ℕ → ℕ
-digit n = cond (nat_lt n 10) (48 + n) (87 + n)
+digit n = hex_digit n
 
 -- a byte as two digits
 abbrev pub hex : ℕ → List ℕ
-hex n = digit (n / 16) ∷ digit (n % 16) ∷ []
+hex b = hex_byte b
 
 -- the texts f 0, f 1, .. f (n - 1), one after the other
 unfoldable pub texts : (ℕ → List ℕ) → ℕ → List ℕ

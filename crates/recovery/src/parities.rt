@@ -46,8 +46,8 @@ fn add_all<C: Code>(
     ensures p { p.new ≡ sum (length «data».now) (content «data».now) }
     ensures q { q.new ≡ sum (length «data».now) (λ j. (C.Code.coding code.now).mix j (content «data».now j)) }
 {
-    for j in 0..data.len() {
-        change(code, j, &data[j], p, q)?;
+    for (j, block) in data.iter().enumerate() {
+        change(code, j, block, p, q)?;
     }
     Ok(())
 }

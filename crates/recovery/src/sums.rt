@@ -14,28 +14,14 @@ use parity::Way;
 pub fn takes_plain(way: Way) -> bool
     ensures value { result ≡ takes_plain way }
 {
-    match way {
-        Way::Mixed => false,
-        Way::Unmixed(_) => false,
-        Way::Plain => true,
-        Way::PWithout(_) => true,
-        Way::QWithout(_) => true,
-        Way::Pair(_, _) => true,
-    }
+    !matches!(way, Way::Mixed | Way::Unmixed(_))
 }
 
 // Whether a way needs the mixed sum.
 pub fn takes_mixed(way: Way) -> bool
     ensures value { result ≡ takes_mixed way }
 {
-    match way {
-        Way::Plain => false,
-        Way::Mixed => true,
-        Way::Unmixed(_) => true,
-        Way::PWithout(_) => true,
-        Way::QWithout(_) => true,
-        Way::Pair(_, _) => true,
-    }
+    !matches!(way, Way::Plain)
 }
 
 // Adds column `t` with the bytes `block` to the plain sum, if the way needs it.
@@ -44,10 +30,7 @@ fn add_plain(way: Way, k: usize, t: usize, block: &[u8], plain: &mut [u8])
     requires plain { length plain.old ≡ block_size }
     ensures after { plain.new ≡ (if takes_plain way then (plain.old ⊕ plain_part k t block.now) else plain.old) }
 {
-    if !takes_plain(way) {
-        return;
-    }
-    if t <= k {
+    if takes_plain(way) && t <= k {
         xor_run(block, plain);
     }
 }
@@ -67,15 +50,13 @@ fn add_mixed<C: Code>(
     ensures answered { answer result ≡ 0 }
     ensures after { mixed.new ≡ (if takes_mixed way then (mixed.old ⊕ mixed_part (C.Code.coding code.now) k t block.now) else mixed.old) }
 {
-    if !takes_mixed(way) {
+    if !takes_mixed(way) || t == k {
         return Ok(());
     }
     if t < k {
         code.mix_into(t, block, mixed)
-    } else if t > k {
-        xor_into(block, mixed)
     } else {
-        Ok(())
+        xor_into(block, mixed)
     }
 }
 

@@ -1,20 +1,20 @@
 -- A whole stripe fits its own content, and what comes back of it is what was there.
-use Rattle.std.proofs.Common.{◌≡◌, ℕ, ◌+◌, ◌-◌, ◌<◌, ◌≤◌, Bool, true, false, cond, ◌⊎◌, List, [], ◌∷◌, ◌++◌, map, length, get_or, take, drop, set, replicate, is_some, is_ok, Some, None, Ok, Err, Option, Result, sym, refl, ap, ◌∙◌, subst, inl, inr, arith, length-append, length-drop, length-take}
-use Rattle.std.specs.List.{range_with_len}
-use Rattle.std.proofs.lemmas.List.{get_or-set_other, get_or-replicate, get_or-take, get_or-drop, get_or_past, get_or_append_left, get_or_push, length-set}
-use Rattle.std.proofs.lemmas.List.FromFn.{length-map-range_with_len, get_or-map-range_with_len}
-use Rattle.std.proofs.lemmas.Bool.{cases_eq, cases_lt, true≢false}
+use Rattle.std.proofs.Common.{◌≡◌, ℕ, ◌+◌, ◌-◌, ◌<◌, ◌≤◌, true, false, cond, not, ◌&&◌, ◌⊎◌, eqb, List, [], ◌∷◌, ◌++◌, length, get_or, take, drop, set, is_some, is_ok, Some, None, Ok, Err, Option, Bor, Result, ⊎_elim, sym, refl, ap, ◌∙◌, subst, inl, inr, arith, length-append, length-drop, length-take}
+use Rattle.std.specs.Prelude.{option_copied}
+use Rattle.std.proofs.lemmas.List.{get_or_default, get_or-set_other, get_or-set_same, get_or-take, get_or-drop, get_or_past, get_or_append_left, get_or_push, length-set}
+use Rattle.std.proofs.Math.Bool.{and-false}
+use Rattle.std.proofs.lemmas.Bool.{cases_eq, cases_lt, true≢false, eq-eqb, ne_eqb, cond-true, cond-false, cond_both, and_from, le-leb, lt-ltb, le-ltb}
 use Rattle.code.specs.Blocks.{Block, block_size}
 use Rattle.code.specs.Codes.{Coding}
-use Rattle.parity.specs.Stripe.{Content, column, Holds, Fits, gaps, missing}
+use Rattle.parity.specs.Stripe.{Content, column, Fits, gaps, missing}
 use Rattle.parity.proofs.Gaps.{gaps_first}
 use Rattle.parity.proofs.Sums.{sum_cong}
 use Rattle.parity.proofs.Columns.{kind, is_data, is_P, is_Q, column_data, column_P, column_Q}
-use Rattle.recovery.specs.Answers.{stripe_answer}
-use Rattle.recovery.specs.Columns.{content, stripe_of}
+use Rattle.recovery.specs.Answers.{stripe_answer, on_recover}
+use Rattle.recovery.specs.Columns.{content, columns_of}
 use Rattle.recovery.specs.declared.refusal.StripeRefusal.{StripeRefusal}
 use Rattle.recovery.specs.declared.refusal.StripeRefusal.TheVariants.{Column, Length, Loss}
-use Rattle.report.specs.Losses.{Whole, marks_without}
+use Rattle.report.specs.Losses.{Whole, Made, without}
 
 -- an answer of 0 is one that was taken
 pub taken : {U : Type 0} (r : Result U StripeRefusal) → stripe_answer r ≡ 0 → is_ok r ≡ true
@@ -23,13 +23,48 @@ taken (Err Column) e = absurd (omega arith)
 taken (Err Length) e = absurd (omega arith)
 taken (Err Loss) e = absurd (omega arith)
 
-held : (m : Bool) (a b : List ℕ) → a ≡ b → Holds (cond m (Some a) None) b
-held true a b e = e
-held false a b e = tt
+-- a column is one of two that are lost, or is there
+either : (i j t : ℕ) → ((t ≡ i) ⊎ (t ≡ j)) ⊎ ((t ≡ i → ⊥) × (t ≡ j → ⊥))
+either i j t = ⊎_elim (λ e. inl (inl e)) (λ a. ⊎_elim (λ e. inl (inr e)) (λ b. inr (a, b)) (cases_eq t j)) (cases_eq t i)
 
--- whatever is marked missing, the stripe's own content fits
-pub whole_fits : (C : Coding) (k : ℕ) (blocks : List (List ℕ)) (marks : List Bool) → Whole C k blocks → Fits C k (content blocks) (stripe_of blocks marks)
-whole_fits C k blocks marks w t l = held (get_or marks t false) (get_or blocks t []) (column C k (content blocks) t) (w.columns t l)
+lost : (blocks : List (List ℕ)) (i j t : ℕ) → (t ≡ i) ⊎ (t ≡ j) → without blocks i j t ≡ None
+lost blocks i j t =
+    ⊎_elim
+    (λ e. cond-true _ _ _ (eq-eqb t i e))
+    (λ e. cond_both (eqb t i) None (cond (eqb t j) None (Some (get_or blocks t []))) (λ o. o ≡ None) (λ _. refl) (λ _. cond-true _ _ _ (eq-eqb t j e)))
+
+kept : (blocks : List (List ℕ)) (i j t : ℕ) → (t ≡ i → ⊥) × (t ≡ j → ⊥) → without blocks i j t ≡ Some (get_or blocks t [])
+kept blocks i j t n = cond-false _ _ _ (ne_eqb t i n.0) ∙ cond-false _ _ _ (ne_eqb t j n.1)
+
+-- one more column that is there
+pub one_more : (blocks : List (List ℕ)) (left : List (Option (Bor (List ℕ)))) (t : ℕ) (x : Option (Bor (List ℕ))) → t < length left → option_copied x ≡ Some (get_or blocks t [])
+    → ((u : ℕ) → u < t → columns_of left u ≡ Some (get_or blocks u [])) → (u : ℕ) → u < t + 1 → columns_of (set left t x) u ≡ Some (get_or blocks u [])
+one_more blocks left t x l e h u m =
+    ⊎_elim
+    (λ (q : u ≡ t). ap option_copied (ap (λ n. get_or (set left t x) n None) q ∙ get_or-set_same left t x None l) ∙ e ∙ ap (λ n. Some (get_or blocks n [])) (sym q))
+    (λ (n : u ≡ t → ⊥). ap option_copied (get_or-set_other left t u x None n) ∙ h u (omega arith))
+    (cases_eq u t)
+
+-- a list of columns that are there, of which two are then taken away
+pub taken_away : (blocks : List (List ℕ)) (left : List (Option (Bor (List ℕ)))) (i j t : ℕ) → i < length left → j < length left → columns_of left t ≡ Some (get_or blocks t [])
+    → columns_of (set (set left i None) j None) t ≡ without blocks i j t
+taken_away blocks left i j t li lj h =
+    let first = set left i None in
+    ⊎_elim
+    (λ (e : t ≡ j). ap option_copied (ap (λ n. get_or (set first j None) n None) e ∙ get_or-set_same first j None None (simp length-set lj)) ∙ sym (lost blocks i j t (inr e)))
+    (λ (b : t ≡ j → ⊥).
+    ap option_copied (get_or-set_other first j t None None b)
+    ∙ ⊎_elim
+    (λ (e : t ≡ i). ap option_copied (ap (λ n. get_or first n None) e ∙ get_or-set_same left i None None li) ∙ sym (lost blocks i j t (inl e)))
+    (λ (a : t ≡ i → ⊥). ap option_copied (get_or-set_other left i t None None a) ∙ h ∙ sym (kept blocks i j t (a, b)))
+    (cases_eq t i))
+    (cases_eq t j)
+
+-- whatever two columns are missing, the stripe's own content fits
+pub whole_fits : (C : Coding) (k i j : ℕ) (blocks : List (List ℕ)) (cols : ℕ → Option (List ℕ)) → Whole C k blocks
+    → ((t : ℕ) → t < k + 2 → cols t ≡ without blocks i j t) → Fits C k (content blocks) cols
+whole_fits C k i j blocks cols w h t l =
+    ⊎_elim (λ e. rw (h t l ∙ lost blocks i j t e) tt) (λ n. rw (h t l ∙ kept blocks i j t n) (w.columns t l)) (either i j t)
 
 -- at most two are missing where each missing one is i or j
 two_missing : (cols : ℕ → Option (List ℕ)) (i j n : ℕ) → ((t : ℕ) → t < n → is_some (cols t) ≡ false → (t ≡ i) ⊎ (t ≡ j)) → missing cols n ≤ 2
@@ -45,32 +80,42 @@ two_missing cols i j n h = go (gaps cols n) refl
         let r = gaps_first cols b d g q.2 in
         absurd (omega (arith, q.0, r.0, h a p.0 p.1, h b (omega (arith, p.0, q.0)) q.1, h d (omega (arith, p.0, q.0, r.0)) r.1))
 
-marked : (i j n t : ℕ) → n ≤ 18 → t < n → (t ≡ i → ⊥) → (t ≡ j → ⊥) → get_or (take (n - 0) (marks_without i j)) t false ≡ true
-marked i j n t h l a b =
-    get_or-take (n - 0) (marks_without i j) t false (omega arith)
-    ∙ get_or-set_other (set (replicate 18 true) i false) j t false false b
-    ∙ get_or-set_other (replicate 18 true) i t false false a
-    ∙ get_or-replicate 18 t true false (omega arith)
+pub few_missing : (blocks : List (List ℕ)) (cols : ℕ → Option (List ℕ)) (i j n : ℕ) → ((t : ℕ) → t < n → cols t ≡ without blocks i j t) → missing cols n ≤ 2
+few_missing blocks cols i j n h =
+    two_missing cols i j n (λ t l e. ⊎_elim (λ q. q) (λ m. absurd (true≢false (sym (ap is_some (h t l ∙ kept blocks i j t m)) ∙ e))) (either i j t))
 
-pub marks_length : (i j n : ℕ) → n ≤ 18 → length (take (n - 0) (marks_without i j)) ≡ n
-marks_length i j n h = simp (length-take, length-set) (omega arith)
+-- what recovery is asked with: all columns but two of a whole stripe, with no more of the list than there are columns
+pub record Asked (C : Coding) (blocks : List (List ℕ)) (left : List (Option (Bor (List ℕ)))) : Type 0 where
+  pub long : length left ≡ length blocks
+  pub fits : Fits C (length blocks - 2) (content blocks) (columns_of left)
+  pub few : missing (columns_of left) (length blocks) ≤ 2
 
-present : (blocks : List (List ℕ)) (marks : List Bool) (t : ℕ) → get_or marks t false ≡ true → is_some (stripe_of blocks marks t) ≡ true
-present blocks marks t e = ap (λ m. is_some (cond m (Some (get_or blocks t [])) None)) e
+pub asked : (C : Coding) (blocks : List (List ℕ)) (left : List (Option (Bor (List ℕ)))) (i j m : ℕ) → Whole C (length blocks - 2) blocks → 2 < length blocks → m ≡ length blocks → m ≤ length left
+    → ((t : ℕ) → t < length blocks → columns_of left t ≡ without blocks i j t) → Asked C blocks (take m left)
+asked C blocks left i j m w two e l h =
+    let n = length blocks in
+    let cols : (t : ℕ) → t < n → columns_of (take m left) t ≡ without blocks i j t = λ t s. ap option_copied (get_or-take m left t None (omega arith)) ∙ h t s in
+    record {
+      long = simp length-take (omega arith);
+      fits = whole_fits C (n - 2) i j blocks (columns_of (take m left)) w (λ t s. cols t (omega arith));
+      few = few_missing blocks (columns_of (take m left)) i j n cols;
+    }
 
-pub few_missing : (blocks : List (List ℕ)) (i j n : ℕ) → n ≤ 18 → missing (stripe_of blocks (take (n - 0) (marks_without i j))) n ≤ 2
-few_missing blocks i j n h =
-    two_missing (stripe_of blocks marks) i j n (λ t l gone.
-    elim (cases_eq t i) [
-      | inl e ↦ inl e
-      | inr a ↦ elim (cases_eq t j) [
-        | inl e ↦ inr e
-        | inr b ↦ absurd (true≢false (sym (present blocks marks t (marked i j n t h l a b)) ∙ gone))
-      ]
-    ])
-  where
-    marks : List Bool
-    marks = take (n - 0) (marks_without i j)
+-- what it then answers, and what it gives
+pub not_refused : (C : Coding) (blocks : List (List ℕ)) (left : List (Option (Bor (List ℕ)))) (t : ℕ) → Whole C (length blocks - 2) blocks → 2 < length blocks → t < length blocks → Asked C blocks left
+    → on_recover C.limit (length left) (columns_of left) t true ≡ 0
+not_refused C blocks left t w two l a =
+    rw a.long (
+    cond-true _ _ _ (and_from _ _ (le-leb 2 (length blocks) (omega arith)) (and_from _ _ (le-leb (length blocks - 2) C.limit w.limit) (lt-ltb t (length blocks) l)))
+    ∙ cond-false _ _ _ (ap (λ b. not (is_some (columns_of left t)) && b) (le-ltb 2 (missing (columns_of left) (length blocks)) a.few) ∙ and-false _))
+
+pub comes_back : (C : Coding) (blocks : List (List ℕ)) (left : List (Option (Bor (List ℕ)))) (t : ℕ) (found : List ℕ) → Whole C (length blocks - 2) blocks → 2 < length blocks → t < length blocks → Asked C blocks left
+    → ((c : ℕ → List ℕ) → Content (length left - 2) c → Fits C (length left - 2) c (columns_of left) → found ≡ column C (length left - 2) c t) → found ≡ get_or blocks t []
+comes_back C blocks left t found w two l a h = (rw a.long at h) (content blocks) w.sized a.fits ∙ sym (w.columns t (omega arith))
+
+-- a column that is read at place m of the list
+pub held_at : (C : Coding) (k : ℕ) (blocks : List (List ℕ)) (x : List ℕ) (m t : ℕ) → Whole C k blocks → x ≡ get_or blocks m x → m ≡ t → t < k + 2 → x ≡ column C k (content blocks) t
+held_at C k blocks x m t w e q l = e ∙ ap (λ n. get_or blocks n x) q ∙ get_or_default blocks t x [] (omega (arith, w.count)) ∙ w.columns t l
 
 -- a column is given by the data columns alone
 pub column_same : (C : Coding) (k : ℕ) (c d : ℕ → List ℕ) → ((i : ℕ) → i < k → c i ≡ d i) → (t : ℕ) → t < k + 2 → column C k c t ≡ column C k d t
@@ -82,48 +127,44 @@ column_same C k c d h t l = elim (kind k t l) [
 ]
 
 -- ---- a stripe that is made of its data and its parities
-module _ (C : Coding) (k : ℕ) (d : ℕ → List ℕ) (blocks : List (List ℕ)) (p q : List ℕ) where
-  module _ (is : blocks ≡ (map d (range_with_len 0 k) ++ (p ∷ [])) ++ (q ∷ [])) where
-    long : length (map d (range_with_len 0 k)) ≡ k
-    long = length-map-range_with_len d 0 k
+module _ (C : Coding) (given blocks : List (List ℕ)) (p q : List ℕ) (is : blocks ≡ (given ++ (p ∷ [])) ++ (q ∷ [])) where
+  longer : length (given ++ (p ∷ [])) ≡ length given + 1
+  longer = length-append given (p ∷ [])
 
-    longer : length (map d (range_with_len 0 k) ++ (p ∷ [])) ≡ k + 1
-    longer = length-append (map d (range_with_len 0 k)) (p ∷ []) ∙ ap (λ n. n + 1) long
+  block_at : (i : ℕ) → i < length given → content blocks i ≡ content given i
+  block_at i l =
+      ap (λ b. get_or b i []) is
+      ∙ get_or_append_left (given ++ (p ∷ [])) (q ∷ []) [] i (omega (arith, longer))
+      ∙ get_or_append_left given (p ∷ []) [] i l
 
-    pub block_at : (i : ℕ) → i < k → content blocks i ≡ d i
-    block_at i l =
-        ap (λ b. get_or b i []) is
-        ∙ get_or_append_left (map d (range_with_len 0 k) ++ (p ∷ [])) (q ∷ []) [] i (omega (arith, longer))
-        ∙ get_or_append_left (map d (range_with_len 0 k)) (p ∷ []) [] i (omega (arith, long))
-        ∙ get_or-map-range_with_len d 0 k i i [] l (omega arith)
+  block_P : get_or blocks (length given) [] ≡ p
+  block_P =
+      ap (λ b. get_or b (length given) []) is
+      ∙ get_or_append_left (given ++ (p ∷ [])) (q ∷ []) [] (length given) (omega (arith, longer))
+      ∙ get_or_push given p [] (length given) refl
 
-    block_P : get_or blocks k [] ≡ p
-    block_P =
-        ap (λ b. get_or b k []) is
-        ∙ get_or_append_left (map d (range_with_len 0 k) ++ (p ∷ [])) (q ∷ []) [] k (omega (arith, longer))
-        ∙ get_or_push (map d (range_with_len 0 k)) p [] k long
+  block_Q : get_or blocks (length given + 1) [] ≡ q
+  block_Q = ap (λ b. get_or b (length given + 1) []) is ∙ get_or_push (given ++ (p ∷ [])) q [] (length given + 1) longer
 
-    block_Q : get_or blocks (k + 1) [] ≡ q
-    block_Q = ap (λ b. get_or b (k + 1) []) is ∙ get_or_push (map d (range_with_len 0 k) ++ (p ∷ [])) q [] (k + 1) longer
+  pub made_of : Made given blocks
+  made_of = record {
+    count = ap length is ∙ length-append (given ++ (p ∷ [])) (q ∷ []) ∙ ap (λ n. n + 1) longer ∙ omega arith;
+    kept = block_at;
+  }
 
-    pub whole_of : k ≤ C.limit → Content k d → p ≡ column C k d k → q ≡ column C k d (k + 1) → Whole C k blocks
-    whole_of h sized ep eq = record {
-      count = ap length is ∙ length-append (map d (range_with_len 0 k) ++ (p ∷ [])) (q ∷ []) ∙ ap (λ n. n + 1) longer ∙ omega arith;
-      limit = h;
-      sized = λ i l. subst Block (sym (block_at i l)) (sized i l);
-      columns = λ t l. elim (kind k t l) [
-        | is_data m ↦ sym (column_data C k (content blocks) t m)
-        | is_P e ↦ ap (λ x. get_or blocks x []) e ∙ block_P ∙ ep ∙ ap (column C k d) (sym e) ∙ column_same C k d (content blocks) (λ i m. sym (block_at i m)) t l
-        | is_Q e ↦ ap (λ x. get_or blocks x []) e ∙ block_Q ∙ eq ∙ ap (column C k d) (sym e) ∙ column_same C k d (content blocks) (λ i m. sym (block_at i m)) t l
-      ];
-    }
-
--- what encoding the data gives for a column, P or Q, that lies by f after the data
-pub encoded_is : (C : Coding) (k : ℕ) (d : ℕ → List ℕ) (blocks : List (List ℕ)) (f : ℕ → ℕ) → blocks ≡ map d (range_with_len 0 k) → f k < k + 2
-    → column C (length blocks) (content blocks) (f (length blocks)) ≡ column C k d (f k)
-encoded_is C k d blocks f is h =
-    ap (λ n. column C n (content blocks) (f n)) (ap length is ∙ length-map-range_with_len d 0 k)
-    ∙ column_same C k (content blocks) d (λ i l. ap (λ b. get_or b i []) is ∙ get_or-map-range_with_len d 0 k i i [] l (omega arith)) (f k) h
+  pub whole_of : (k : ℕ) → k ≡ length given → k ≤ C.limit → Content (length given) (content given) → p ≡ column C (length given) (content given) (length given)
+      → q ≡ column C (length given) (content given) (length given + 1) → Whole C k blocks
+  whole_of k ek h sized ep eq = rw ek (record {
+    count = made_of.count;
+    limit = rw ek at h;
+    sized = λ i l. subst Block (sym (block_at i l)) (sized i l);
+    columns = λ t l.
+        let same = column_same C (length given) (content given) (content blocks) (λ i m. sym (block_at i m)) t l in elim (kind (length given) t l) [
+          | is_data m ↦ sym (column_data C (length given) (content blocks) t m)
+          | is_P e ↦ ap (λ x. get_or blocks x []) e ∙ block_P ∙ ep ∙ ap (column C (length given) (content given)) (sym e) ∙ same
+          | is_Q e ↦ ap (λ x. get_or blocks x []) e ∙ block_Q ∙ eq ∙ ap (column C (length given) (content given)) (sym e) ∙ same
+        ];
+  })
 
 -- a part of bytes that is long enough is a block
 pub part_block : (bytes : List ℕ) (a : ℕ) → a + block_size ≤ length bytes → ((i : ℕ) → get_or bytes i 0 < 256) → Block (take block_size (drop a bytes))

@@ -1,5 +1,5 @@
 -- A stripe with nothing missing, and two of its columns taken away.
-use Rattle.std.specs.Prelude.{◌≡◌, ℕ, ◌+◌, ◌<◌, ◌≤◌, Bool, true, false, List, [], length, replicate, slice_index_or, slice_set}
+use Rattle.std.specs.Prelude.{◌≡◌, ℕ, ◌+◌, ◌<◌, ◌≤◌, cond, ◌==◌, List, [], length, None, Some, Option, slice_index_or}
 use Rattle.code.specs.Codes.{Coding}
 use Rattle.parity.specs.Stripe.{Content, column}
 use Rattle.recovery.specs.Columns.{content}
@@ -11,6 +11,11 @@ pub record Whole (C : Coding) (k : ℕ) (blocks : List (List ℕ)) : Type 0 wher
   pub sized : Content k (content blocks)
   pub columns : (t : ℕ) → t < k + 2 → slice_index_or blocks t [] ≡ column C k (content blocks) t
 
--- marks for 18 columns, all present but i and j
-abbrev pub marks_without : ℕ → ℕ → List Bool
-marks_without i j = slice_set (slice_set (replicate 18 true) i false) j false
+-- blocks are the columns of a stripe whose data columns are given
+pub record Made (given blocks : List (List ℕ)) : Type 0 where
+  pub count : length blocks ≡ length given + 2
+  pub kept : (i : ℕ) → i < length given → content blocks i ≡ content given i
+
+-- the columns of a stripe, of which i and j are missing
+abbrev pub without : List (List ℕ) → ℕ → ℕ → ℕ → Option (List ℕ)
+without blocks i j t = cond (t == i) None (cond (t == j) None (Some (slice_index_or blocks t [])))

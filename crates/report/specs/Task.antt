@@ -1,15 +1,13 @@
 -- What a report is asked on, and what it says.
-use Rattle.std.specs.Prelude.{ℕ, zero, suc, ◌+◌, ◌*◌, Bool, cond, ◌&&◌, List, ◌++◌, length, take, drop, codes, ◌==◌, nat_le, nat_lt, slice_index}
+use Rattle.std.specs.Prelude.{◌≡◌, ℕ, zero, suc, ◌+◌, ◌*◌, ◌<◌, Bool, true, cond, ◌&&◌, List, ◌++◌, length, take, drop, codes, ◌==◌, nat_le, nat_lt}
+pub use Rattle.notation.specs.Numbers.{number_at}
 use Rattle.code.specs.Blocks.{block_size}
 use Rattle.code.specs.Codes.{Coding}
 use Rattle.field.specs.Mixing.{pq}
 use Rattle.prime.specs.Diagonals.{rdp, evenodd}
-use Rattle.parity.specs.Stripe.{column}
+use Rattle.parity.specs.Stripe.{Content, column}
+use Rattle.recovery.specs.Columns.{content}
 use Rattle.report.specs.Text.{parity_line, lines_below, pairs, count_line}
-
--- the 16-bit little-endian number at place i; bytes past the end count as 0
-abbrev pub number_at : List ℕ → ℕ → ℕ
-number_at task i = slice_index task i + 256 * slice_index task (i + 1)
 
 -- the code's number, and the number of data columns
 abbrev pub code_number : List ℕ → ℕ
@@ -25,6 +23,13 @@ data_block task i = take block_size (drop (4 + block_size * i) task)
 -- a stripe: 1 to 16 data columns, no more than the code's limit w, and just as many blocks
 abbrev pub is_stripe : ℕ → List ℕ → Bool
 is_stripe w task = length task == 4 + block_size * width task && (nat_lt 0 (width task) && (nat_le (width task) 16 && nat_le (width task) w))
+
+-- blocks are the data blocks of a task that is a stripe under the limit w
+pub record DataOf (w : ℕ) (task : List ℕ) (blocks : List (List ℕ)) : Type 0 where
+  pub good : is_stripe w task ≡ true
+  pub count : length blocks ≡ width task
+  pub given : (i : ℕ) → i < width task → content blocks i ≡ data_block task i
+  pub sized : Content (width task) (content blocks)
 
 abbrev pub bad_stripe : List ℕ
 bad_stripe = codes "bad stripe\n"

@@ -1,9 +1,6 @@
 -- The lines of a report, as text.
-use Rattle.std.specs.Prelude.{ℕ, zero, suc, ◌+◌, ◌-◌, ◌/◌, ◌%◌, Bool, true, cond, List, [], ◌∷◌, ◌++◌, codes, decimal, nat_lt}
-
--- 0 to 9, then a to f
-abbrev pub hex_digit : ℕ → ℕ
-hex_digit d = cond (nat_lt d 10) (48 + d) (87 + d)
+use Rattle.std.specs.Prelude.{ℕ, zero, suc, ◌+◌, ◌-◌, ◌/◌, ◌%◌, Bool, true, cond, List, [], ◌∷◌, ◌++◌, codes, decimal}
+pub use Rattle.notation.specs.Numbers.{hex_digit}
 
 -- two lower-case hexadecimal digits for each byte
 unfoldable pub hex : List ℕ → List ℕ

@@ -1,37 +1,16 @@
 // The lines of a report, appended to one text.
-ghost use Rattle.std.specs.Prelude.{◌≡◌, ℕ, ◌/◌, ◌%◌, ◌<◌, true, cond, [], ◌∷◌, ◌++◌, string_bytes, OnOk};
-ghost use Rattle.report.specs.Text.{hex, hex_digit, parity_line, pair_line, count_line};
+ghost use Rattle.std.specs.Prelude.{◌≡◌, ◌++◌, string_bytes, OnOk};
+ghost use Rattle.report.specs.Text.{hex, parity_line, pair_line, count_line};
 
+use notation::hex::push_hex;
 use std::alloc::AllocError;
 
-// The hexadecimal digit of a number below 16.
-fn digit(d: u8) -> char
-    requires small { d < 16 }
-    ensures value { result ≡ hex_digit d }
-    ensures ascii { result < 128 }
-{
-    if d < 10 {
-        (b'0' + d) as char
-    } else {
-        (b'a' - 10 + d) as char
-    }
-}
-
-// Appends a byte as two digits.
-fn push_byte(out: &mut String, b: u8) -> Result<(), AllocError>
-    ensures made { OnOk result (string_bytes out.new ≡ string_bytes out.old ++ (hex_digit (b / 16) ∷ (hex_digit (b % 16) ∷ []))) }
-{
-    out.push(digit(b / 16))?;
-    out.push(digit(b % 16))?;
-    Ok(())
-}
-
 // Appends each byte of `block` as two digits.
-fn push_hex(out: &mut String, block: &[u8]) -> Result<(), AllocError>
+fn push_block(out: &mut String, block: &[u8]) -> Result<(), AllocError>
     ensures made { OnOk result (string_bytes out.new ≡ string_bytes out.old ++ hex block.now) }
 {
     for b in block {
-        push_byte(out, *b)?;
+        push_hex(out, *b)?;
     }
     Ok(())
 }
@@ -42,9 +21,8 @@ pub(crate) fn push_parity(out: &mut String, letter: &str, block: &[u8]) -> Resul
 {
     out.push_str(letter)?;
     out.push_str(" ")?;
-    push_hex(out, block)?;
-    out.push_str("\n")?;
-    Ok(())
+    push_block(out, block)?;
+    out.push_str("\n")
 }
 
 // Appends the line of a lost pair.
@@ -57,18 +35,12 @@ pub(crate) fn push_pair(
     ensures made { OnOk result (string_bytes out.new ≡ string_bytes out.old ++ pair_line i j recovered) }
 {
     let verdict = if recovered { "recovered" } else { "differs" };
-    match writeln!(out, "{i} {j} {verdict}") {
-        Ok(()) => Ok(()),
-        Err(_) => Err(AllocError),
-    }
+    writeln!(out, "{i} {j} {verdict}")
 }
 
 // Appends a line with one number.
 pub(crate) fn push_count(out: &mut String, n: usize) -> Result<(), AllocError>
     ensures made { OnOk result (string_bytes out.new ≡ string_bytes out.old ++ count_line n) }
 {
-    match writeln!(out, "{n}") {
-        Ok(()) => Ok(()),
-        Err(_) => Err(AllocError),
-    }
+    writeln!(out, "{n}")
 }

@@ -1,17 +1,10 @@
-use Rattle.std.proofs.Common.{◌≡◌, ◌+◌, length, sym, ◌∙◌, subst, ap₂, arith, rules}
-use Rattle.parity.specs.Stripe.{missing}
-use Rattle.parity.proofs.Gaps.{missing_none}
-use Rattle.recovery.specs.Columns.{stripe_of}
-use Rattle.recovery.proofs.Marks.{missing_next}
+use Rattle.std.proofs.Common.{◌≡◌, length, ap, ◌∙◌, sym, take_all, arith, rules}
+use Rattle.std.specs.Prelude.{is_none, count_by}
+use Rattle.recovery.proofs.Marks.{missing_counted}
 use Rattle.recovery.proofs.columns.count_missing.Goals as goal
-
-pub loop-t-init : goal.loop-t-init
-loop-t-init c = ((λ blocks. sym (missing_none _)), omega arith)
-
-pub loop-t-preserved : goal.loop-t-preserved
-loop-t-preserved c = ((λ blocks. ap₂ ◌+◌ (c.loop-t.invariant.0 blocks) c.absent-count.ensures.value ∙ sym (missing_next blocks c.args.present.now c.loop-t.t)), search rules)
 
 pub returns : goal.returns
 returns c =
-    let e : c.loop-t.t ≡ length c.args.present.now = omega arith in
-    record { value = λ blocks. subst (λ n. c.loop-t.count ≡ missing (stripe_of blocks c.args.present.now) n) e (c.loop-t.invariant.0 blocks) }
+    let columns = c.args.columns.now in
+    let counted : c.count.result ≡ count_by is_none columns = search rules in
+    record { value = counted ∙ ap (count_by is_none) (sym (take_all (length columns) columns (omega arith))) ∙ sym (missing_counted columns (length columns) (omega arith)) }

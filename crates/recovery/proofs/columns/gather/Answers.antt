@@ -1,36 +1,53 @@
-use Rattle.std.proofs.Common.{◌≡◌, ◌+◌, cond, refl, ◌∙◌, subst, arith}
+use Rattle.std.proofs.Common.{◌≡◌, ◌+◌, cond, get_or, None, refl, ◌∙◌, subst, arith}
 use Rattle.code.specs.Blocks.{zeros}
+use Rattle.code.specs.Answers.{answer}
 use Rattle.code.proofs.Blocks.{length_zeros}
-use Rattle.parity.specs.Stripe.{plain_sum, mixed_sum}
+use Rattle.parity.specs.Stripe.{plain_part, mixed_part, plain_sum, mixed_sum}
 use Rattle.parity.specs.Ways.{takes_plain, takes_mixed}
 use Rattle.parity.proofs.Sums.{sum_none}
-use Rattle.recovery.specs.Columns.{stripe_of}
-use Rattle.recovery.proofs.Marks.{needed_none, needed_step}
-use Rattle.recovery.proofs.Outcomes.{never}
+use Rattle.recovery.specs.Columns.{columns_of}
+use Rattle.recovery.proofs.Marks.{needed_none, needed_step, present_added, absent_kept}
+use Rattle.recovery.proofs.Outcomes.{never, stripe_taken, good_three}
 use Rattle.recovery.proofs.columns.gather.Goals as goal
+use Rattle.recovery.proofs.columns.gather.Goals.{in-Some+in_ok-add_column, in_default}
 
 pub loop-t-init : goal.loop-t-init
-loop-t-init g c = (needed_none _ _ _ (sum_none _) c.requires.empty.0, needed_none _ _ _ (sum_none _) c.requires.empty.1)
+loop-t-init g c = record { plain = needed_none _ _ _ (sum_none _) c.requires.empty.0; mixed = needed_none _ _ _ (sum_none _) c.requires.empty.1 }
 
-pub add_present-requires : goal.add_present-requires
-add_present-requires g c =
-    record {
-      shape = (c.requires.shape.0, omega (arith, c.requires.shape.1));
-      sizes = (c.told-columns _ (omega arith), c.loop-t.auto.plain ∙ length_zeros _ c.requires.empty.0, c.loop-t.auto.mixed ∙ length_zeros _ c.requires.empty.1);
-    }
+pub returns-in_err-add_column : goal.returns-in_err-add_column
+returns-in_err-add_column g c =
+    let z : answer c.add_column.result ≡ 0 =
+    c.add_column.ensures.answered
+    ∙ stripe_taken _ _ _ _ c.requires.shape.0 (omega (arith, c.requires.shape.1))
+    (good_three _ _ _ (omega arith) (c.loop-t.auto.plain ∙ length_zeros _ c.requires.empty.0) (c.loop-t.auto.mixed ∙ length_zeros _ c.requires.empty.1)) in
+    absurd (never c.add_column.result _ c.in_err-add_column.was z)
 
 pub loop-t-preserved : goal.loop-t-preserved
-loop-t-preserved g c = (needed_step _ _ _ _ _ c.loop-t.invariant.0 c.in_ok-add_present.ensures.plain, needed_step _ _ _ _ _ c.loop-t.invariant.1 c.in_ok-add_present.ensures.mixed)
-
-pub returns-in_err-add_present : goal.returns-in_err-add_present
-returns-in_err-add_present g c = absurd (never c.add_present.result _ c.in_err-add_present.was c.add_present.ensures.answered)
+loop-t-preserved g c =
+    let C = g.C.Code.coding c.args.code.now in
+    let k = c.args.k in
+    let t = c.loop-t.t in
+    let way = c.args.way in
+    let o = get_or c.args.columns.now t None in
+    let sums = c.loop-t.invariant in
+    elim c.match-column.branch [
+      | in-Some+in_ok-add_column w ↦
+          let added = w.in_ok-add_column.ensures in record {
+            plain = needed_step _ _ _ _ _ sums.plain (present_added (takes_plain way) (plain_part k t) o w.in-Some.block c.loop-t.plain w.add_column.new.plain c.match-column.plain w.in-Some.is w.plain-is added.plain);
+            mixed = needed_step _ _ _ _ _ sums.mixed (present_added (takes_mixed way) (mixed_part C k t) o w.in-Some.block c.loop-t.mixed w.add_column.new.mixed c.match-column.mixed w.in-Some.is w.mixed-is added.mixed);
+          }
+      | in_default w ↦ record {
+        plain = needed_step _ _ _ _ _ sums.plain (absent_kept (takes_plain way) (plain_part k t) o c.loop-t.plain c.match-column.plain w.in_default.is (c.loop-t.auto.plain ∙ length_zeros _ c.requires.empty.0) w.plain-is);
+        mixed = needed_step _ _ _ _ _ sums.mixed (absent_kept (takes_mixed way) (mixed_part C k t) o c.loop-t.mixed c.match-column.mixed w.in_default.is (c.loop-t.auto.mixed ∙ length_zeros _ c.requires.empty.1) w.mixed-is);
+      }
+    ]
 
 pub returns : goal.returns
 returns g c =
     let e : c.loop-t.t ≡ c.args.k + 2 = omega (arith, c.requires.shape.1) in
-    let cols = stripe_of c.args.columns.now c.args.present.now in
+    let cols = columns_of c.args.columns.now in
     record {
       answered = refl;
-      plain = subst (λ n. c.loop-t.plain ≡ cond (takes_plain c.args.way) (plain_sum c.args.k cols n) zeros) e c.loop-t.invariant.0;
-      mixed = subst (λ n. c.loop-t.mixed ≡ cond (takes_mixed c.args.way) (mixed_sum (g.C.Code.coding c.args.code.now) c.args.k cols n) zeros) e c.loop-t.invariant.1;
+      plain = subst (λ n. c.loop-t.plain ≡ cond (takes_plain c.args.way) (plain_sum c.args.k cols n) zeros) e c.loop-t.invariant.plain;
+      mixed = subst (λ n. c.loop-t.mixed ≡ cond (takes_mixed c.args.way) (mixed_sum (g.C.Code.coding c.args.code.now) c.args.k cols n) zeros) e c.loop-t.invariant.mixed;
     }

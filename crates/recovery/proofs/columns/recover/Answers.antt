@@ -1,7 +1,7 @@
 use Rattle.std.proofs.Common.{◌≡◌, ◌+◌, ◌-◌, ◌≤◌, length, sym, ◌∙◌, subst, arith, rules}
 use Rattle.parity.specs.Stripe.{missing}
 use Rattle.parity.proofs.Solving.{recovers}
-use Rattle.recovery.specs.Columns.{stripe_of}
+use Rattle.recovery.specs.Columns.{columns_of}
 use Rattle.recovery.proofs.Outcomes.{shape}
 use Rattle.recovery.proofs.columns.recover.Goals as goal
 
@@ -9,12 +9,12 @@ pub returns : goal.returns
 returns g c =
     let C = g.C.Code.coding c.args.code.now in
     let n = length c.args.columns.now in
-    let cols = stripe_of c.args.columns.now c.args.present.now in
+    let cols = columns_of c.args.columns.now in
     let v = c.in_ok-recover_missing.ensures.value in
-    let s = shape c.limit.result n (length c.args.present.now) c.args.want (sym c.is_shaped.ensures.value ∙ c.if-not-is_shaped.false) in
-    let e : length c.args.present.now ≡ n - 2 + 2 = omega (arith, s.same, s.pair) in
+    let s = shape c.limit.result n c.args.want (sym c.is_shaped.ensures.value ∙ c.if-not-is_shaped.false) in
+    let e : n ≡ n - 2 + 2 = omega (arith, s.pair) in
     let few : missing cols (n - 2 + 2) ≤ 2 =
-    subst (λ m. missing cols m ≤ 2) e (omega (arith, c.count_missing.ensures.value c.args.columns.now)) in
+    subst (λ m. missing cols m ≤ 2) e (omega (arith, c.count_missing.ensures.value)) in
     record {
       answered = search rules;
       value = v;

@@ -1,4 +1,4 @@
-use Rattle.std.proofs.Common.{◌≡◌, true, false, get_or, is_some, is_ok, refl, ap, ◌∙◌}
+use Rattle.std.proofs.Common.{◌≡◌, true, is_some, is_ok, refl, ap, ◌∙◌}
 use Rattle.std.proofs.lemmas.Bool.{cond-true}
 use Rattle.code.specs.Blocks.{zeros}
 use Rattle.code.specs.Answers.{answer}
@@ -6,10 +6,9 @@ use Rattle.code.proofs.Blocks.{length_zeros}
 use Rattle.parity.specs.Stripe.{gaps}
 use Rattle.parity.specs.Ways.{way, by_way}
 use Rattle.recovery.specs.Answers.{named}
-use Rattle.recovery.specs.Columns.{stripe_of}
+use Rattle.recovery.specs.Columns.{columns_of}
 use Rattle.recovery.proofs.Outcomes.{way_taken, taken_ok, good_two}
 use Rattle.recovery.proofs.Found.{way_from, way_named, found_is}
-use Rattle.recovery.proofs.Marks.{some_mark}
 use Rattle.recovery.proofs.columns.recover_missing.Goals as goal
 
 pub gather-requires : goal.gather-requires
@@ -20,13 +19,13 @@ pub returns : goal.returns
 returns g c =
     let C = g.C.Code.coding c.args.code.now in
     let k = c.args.k in
-    let cols = stripe_of c.args.columns.now c.args.present.now in
+    let cols = columns_of c.args.columns.now in
     let w : c.way-way.result ≡ way k (gaps cols k) (is_some (cols k)) c.args.want =
-    way_from k c.args.columns.now c.args.present.now c.args.want c.lost_data.result c.way-way.result (c.lost_data.ensures.value c.args.columns.now) c.way-way.ensures.value in
+    way_from k c.args.columns.now c.is_some.result c.args.want c.lost_data.result c.way-way.result c.lost_data.ensures.value c.is_some.ensures c.way-way.ensures.value in
     let n : named C.limit c.way-way.result ≡ true = ap (named C.limit) w ∙ way_named C.limit cols k c.requires.shape.0 (gaps cols k) refl (is_some (cols k)) c.args.want in
     let z : answer c.solve.result ≡ 0 = c.solve.ensures.answered ∙ way_taken C.limit c.way-way.result _ n (good_two c.gather.new.plain c.gather.new.mixed (c.gather.auto.plain ∙ length_zeros _ c.clear.ensures.after) c.gather.auto.mixed) in
     record {
       answered = z;
-      value = found_is C k cols c.args.want c.way-way.result c.gather.new.plain c.gather.new.mixed c.solve.new.plain (some_mark (get_or c.args.present.now c.args.want false) _ ∙ c.requires.gone) w
+      value = found_is C k cols c.args.want c.way-way.result c.gather.new.plain c.gather.new.mixed c.solve.new.plain c.requires.gone w
           c.gather.ensures.plain c.gather.ensures.mixed (c.solve.ensures.column ∙ cond-true (is_ok c.solve.result) (by_way C c.way-way.result c.gather.new.plain c.gather.new.mixed) c.gather.new.plain (taken_ok c.solve.result z));
     }

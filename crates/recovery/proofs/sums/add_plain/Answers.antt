@@ -9,13 +9,13 @@ use Rattle.recovery.proofs.sums.add_plain.Goals as goal
 
 pub returns-then-t-k : goal.returns-then-t-k
 returns-then-t-k c =
-    let w : takes_plain c.args.way ≡ true = sym c.takes_plain.ensures.value ∙ c.if-not-takes_plain.false in
+    let w : true ≡ takes_plain c.args.way = c.if-takes_plain.ensures.value in
     record {
       after = c.xor_run.ensures.after ∙ onto_same c.args.plain.now c.args.block.now (omega arith)
-          ∙ sym (cond-true _ _ _ w ∙ ap (λ x. c.args.plain.now ⊕ x) (plain_low c.args.k c.args.t c.args.block.now (omega arith)));
+          ∙ sym (cond-true _ _ _ (sym w) ∙ ap (λ x. c.args.plain.now ⊕ x) (plain_low c.args.k c.args.t c.args.block.now (omega arith)));
     }
 
-pub returns-else-t-k : goal.returns-else-t-k
-returns-else-t-k c =
-    let w : takes_plain c.args.way ≡ true = sym c.takes_plain.ensures.value ∙ c.if-not-takes_plain.false in
-    record { after = plain_kept c.args.k c.args.t c.args.block.now c.args.plain.now c.requires.plain (omega arith) ∙ sym (cond-true _ _ _ w) }
+pub returns-else-takes_plain : goal.returns-else-takes_plain
+returns-else-takes_plain c = record {
+  after = rw (← c.takes_plain.ensures.value) (plain_kept c.takes_plain.result c.args.k c.args.t c.args.block.now c.args.plain.now c.requires.plain c.else-takes_plain.either);
+}

@@ -1,7 +1,7 @@
 use Rattle.std.proofs.Common.{◌≡◌, ◌+◌, ◌-◌, ◌++◌, length, string_bytes, sym, ap, ◌∙◌, arith}
 use Rattle.report.specs.Text.{lines_with, pair_line}
 use Rattle.report.proofs.Texts.{grown, same_text, with_none, with_more}
-use Rattle.report.proofs.losses.push_pairs_of.Goals as goal
+use Rattle.report.proofs.whole.WholeStripe.push_pairs_of.Goals as goal
 
 pub loop-j-init : goal.loop-j-init
 loop-j-init g c =
@@ -21,5 +21,5 @@ loop-j-preserved g c =
 pub returns : goal.returns
 returns g c =
     let i = c.args.i in
-    let end : c.loop-j.j ≡ length c.args.columns.now = omega (arith, c.loop-j.auto.j-end (omega arith)) in
+    let end : c.loop-j.j ≡ length c.args.self.now.columns.items = omega (arith, c.loop-j.auto.j-end (omega arith)) in
     record { made = c.loop-j.invariant ∙ ap (λ x. string_bytes c.args.out.now ++ lines_with i (i + 1) (x - (i + 1))) end }
