@@ -1,39 +1,30 @@
 -- A volume's shape, members and frontiers, by its parts.
 use Rattle.std.specs.Prelude.{◌≡◌, ℕ, Ok, Err, Result}
-use Rattle.code.specs.Codes.{Coding}
-use Rattle.bank.specs.Slots.{Slots}
+use Rattle.bank.specs.declared.Bank.{Ghosts as Bank}
+use Rattle.code.specs.declared.Code.{Ghosts as Code}
+use Rattle.layout.specs.declared.Layout.{Ghosts as Layout}
 use Rattle.contents.specs.Columns.{Members, Frontiers}
 use Rattle.contents.specs.Shapes.{Shape}
 use Rattle.volume.specs.declared.volume.Volume.{Volume}
 use Rattle.volume.specs.Sizes.{size_of, shape_at}
-use Rattle.volume.specs.Slots.{members_of, frontier_of, records_of}
+use Rattle.volume.specs.Slots.{members_in, frontier_of, records_of}
 use Rattle.contents.specs.Records.{Records}
 use Rattle.contents.specs.Refusals.{Told, told}
 use Rattle.contents.specs.declared.Refusal.{Refusal}
 use Rattle.volume.specs.declared.volume.rebuilds.Order.{Order}
 
--- the meanings of a volume's parts: what a code and a layout mean, and the members of a bank
-pub record Means (C L B : Type 0) : Type 0 where
-  pub coding : C → Coding
-  pub slot : L → ℕ → ℕ → ℕ → ℕ
-  pub column : L → ℕ → ℕ → ℕ → ℕ
-  pub slots : B → Slots
+-- the records C, L and B of a code, a layout and a bank: what they mean
+abbrev pub shape : {C L B : Type 0} → Code C → Layout L → Volume C L B → Shape
+shape C L v = shape_at (C.coding v.code) (L.slot v.layout) (L.column v.layout) (size_of (C.coding v.code).limit v.size)
 
-abbrev pub means : {C L B S : Type 0} → (C → Coding) → (slot column : L → ℕ → ℕ → ℕ → ℕ) → (B → S) → (S → Slots) → Means C L B
-means coding slot column state meaning = record { coding = coding; slot = slot; column = column; slots = λ b. meaning (state b) }
+abbrev pub members : {C L B : Type 0} → Bank B → Volume C L B → Members
+members B v = members_in B v.bank
 
-module _ {C L B : Type 0} (m : Means C L B) (v : Volume C L B) where
-  abbrev pub shape : Shape
-  shape = shape_at (m.coding v.code) (m.slot v.layout) (m.column v.layout) (size_of (m.coding v.code).limit v.size)
+abbrev pub frontiers : {C L B : Type 0} → Volume C L B → Frontiers
+frontiers v = frontier_of v.table.rows
 
-  abbrev pub members : Members
-  members = members_of (m.slots v.bank)
-
-  abbrev pub frontiers : Frontiers
-  frontiers = frontier_of v.table.rows
-
-  abbrev pub records : Records
-  records = records_of v.table.rows
+abbrev pub records : {C L B : Type 0} → Volume C L B → Records
+records v = records_of v.table.rows
 
 -- what no call on a volume changes: its code, its layout and its size
 pub record PartsKept {C L B : Type 0} (v w : Volume C L B) : Type 0 where

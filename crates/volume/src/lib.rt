@@ -8,7 +8,7 @@ ghost use Rattle.parity.specs.Stripe.{missing, plain_part, mixed_part, if_presen
 ghost use Rattle.parity.specs.Ways.{takes_plain, takes_mixed, or_else, recovered};
 ghost use Rattle.recovery.specs.Losses.{listed, noted};
 ghost use Rattle.contents.specs.Columns.{is_current, loss_of};
-ghost use Rattle.volume.specs.Slots.{members_of, frontier_of, columns_in, Surveyed};
+ghost use Rattle.volume.specs.Slots.{frontier_of, columns_in, Surveyed, members_in, slots_in};
 ghost use Rattle.volume.specs.Masks.{Room, with_status};
 ghost use Rattle.volume.specs.Volumes.{shape};
 
@@ -53,7 +53,7 @@ fn has_column<L: Layout, B: Bank>(
     s: usize,
     t: usize,
 ) -> bool
-    ensures value { result ≡ is_some (columns_in (B.Bank.meaning (B.Bank.state bank.now)) table.now.rows (L.Layout.slot layout.now) n s t) }
+    ensures value { result ≡ is_some (columns_in (slots_in B.Bank bank.now) table.now.rows (L.Layout.slot layout.now) n s t) }
 {
     is_current(status_of(table, bank, s, layout.slot_of(n, s, t)))
 }
@@ -83,7 +83,7 @@ fn survey_of<L: Layout, B: Bank>(
     s: usize,
 ) -> Survey
     requires few { (2 ≤ n) × (n ≤ 18) }
-    ensures value { Surveyed (columns_in (B.Bank.meaning (B.Bank.state bank.now)) table.now.rows (L.Layout.slot layout.now) n s) (n - 2) result }
+    ensures value { Surveyed (columns_in (slots_in B.Bank bank.now) table.now.rows (L.Layout.slot layout.now) n s) (n - 2) result }
 {
     let k = n - 2;
     let mut lost = Lost::Nothing;
@@ -136,7 +136,7 @@ fn with_status(loss: Loss, how: Status, bit: u32) -> Loss
 // What is lost of stripe `s`, slot by slot; asked only where a call is refused for it.
 fn loss_of<B: Bank>(n: usize, table: &SlotTable, bank: &B, s: usize) -> Loss
     requires few { n ≤ 18 }
-    ensures value { result ≡ loss_of (members_of (B.Bank.meaning (B.Bank.state bank.now))) (frontier_of table.now.rows) n s }
+    ensures value { result ≡ loss_of (members_in B.Bank bank.now) (frontier_of table.now.rows) n s }
 {
     let mut loss = Loss {
         stripe: s,
@@ -163,9 +163,9 @@ fn load<L: Layout, B: Bank>(
     into: &mut [u8],
 ) -> bool
     requires sized { length into.old ≡ block_size }
-    ensures same { B.Bank.meaning (B.Bank.state bank.new) ≡ B.Bank.meaning (B.Bank.state bank.old) }
-    ensures current { result ≡ is_some (columns_in (B.Bank.meaning (B.Bank.state bank.old)) table.now.rows (L.Layout.slot layout.now) n s t) }
-    ensures after { into.new ≡ or_else (columns_in (B.Bank.meaning (B.Bank.state bank.old)) table.now.rows (L.Layout.slot layout.now) n s t) into.old }
+    ensures same { slots_in B.Bank bank.new ≡ slots_in B.Bank bank.old }
+    ensures current { result ≡ is_some (columns_in (slots_in B.Bank bank.old) table.now.rows (L.Layout.slot layout.now) n s t) }
+    ensures after { into.new ≡ or_else (columns_in (slots_in B.Bank bank.old) table.now.rows (L.Layout.slot layout.now) n s t) into.old }
 {
     let slot = layout.slot_of(n, s, t);
     if !table.has(slot, s) {
@@ -190,9 +190,9 @@ fn add_current<C: Code, L: Layout, B: Bank>(
 )
     requires shape { (2 ≤ n) × (n - 2 ≤ (C.Code.coding code.now).limit) × (t < n) }
     requires sizes { (length scratch.old ≡ block_size) × (length plain.old ≡ block_size) × (length mixed.old ≡ block_size) }
-    ensures same { B.Bank.meaning (B.Bank.state bank.new) ≡ B.Bank.meaning (B.Bank.state bank.old) }
-    ensures plain { plain.new ≡ (if takes_plain way then (plain.old ⊕ if_present (plain_part (n - 2) t) (columns_in (B.Bank.meaning (B.Bank.state bank.old)) table.now.rows (L.Layout.slot layout.now) n s t)) else plain.old) }
-    ensures mixed { mixed.new ≡ (if takes_mixed way then (mixed.old ⊕ if_present (mixed_part (C.Code.coding code.now) (n - 2) t) (columns_in (B.Bank.meaning (B.Bank.state bank.old)) table.now.rows (L.Layout.slot layout.now) n s t)) else mixed.old) }
+    ensures same { slots_in B.Bank bank.new ≡ slots_in B.Bank bank.old }
+    ensures plain { plain.new ≡ (if takes_plain way then (plain.old ⊕ if_present (plain_part (n - 2) t) (columns_in (slots_in B.Bank bank.old) table.now.rows (L.Layout.slot layout.now) n s t)) else plain.old) }
+    ensures mixed { mixed.new ≡ (if takes_mixed way then (mixed.old ⊕ if_present (mixed_part (C.Code.coding code.now) (n - 2) t) (columns_in (slots_in B.Bank bank.old) table.now.rows (L.Layout.slot layout.now) n s t)) else mixed.old) }
 {
     if load(layout, n, table, bank, s, t, scratch) {
         let _ = add_column(code, way, n - 2, t, scratch, plain, mixed);
@@ -213,9 +213,9 @@ fn gather<C: Code, L: Layout, B: Bank>(
 )
     requires shape { (2 ≤ n) × (n - 2 ≤ (C.Code.coding code.now).limit) }
     requires empty { (plain.old ≡ zeros) × (mixed.old ≡ zeros) }
-    ensures same { B.Bank.meaning (B.Bank.state bank.new) ≡ B.Bank.meaning (B.Bank.state bank.old) }
-    ensures plain { plain.new ≡ (if takes_plain way then plain_sum (n - 2) (columns_in (B.Bank.meaning (B.Bank.state bank.old)) table.now.rows (L.Layout.slot layout.now) n s) ((n - 2) + 2) else zeros) }
-    ensures mixed { mixed.new ≡ (if takes_mixed way then mixed_sum (C.Code.coding code.now) (n - 2) (columns_in (B.Bank.meaning (B.Bank.state bank.old)) table.now.rows (L.Layout.slot layout.now) n s) ((n - 2) + 2) else zeros) }
+    ensures same { slots_in B.Bank bank.new ≡ slots_in B.Bank bank.old }
+    ensures plain { plain.new ≡ (if takes_plain way then plain_sum (n - 2) (columns_in (slots_in B.Bank bank.old) table.now.rows (L.Layout.slot layout.now) n s) ((n - 2) + 2) else zeros) }
+    ensures mixed { mixed.new ≡ (if takes_mixed way then mixed_sum (C.Code.coding code.now) (n - 2) (columns_in (slots_in B.Bank bank.old) table.now.rows (L.Layout.slot layout.now) n s) ((n - 2) + 2) else zeros) }
 {
     let mut scratch = [0u8; BLOCK];
     for t in 0..n {
@@ -249,10 +249,10 @@ fn rebuild<C: Code, L: Layout, B: Bank>(
 )
     requires shape { (2 ≤ n) × (n - 2 ≤ (C.Code.coding code.now).limit) }
     requires sized { length into.old ≡ block_size }
-    requires surveyed { Surveyed (columns_in (B.Bank.meaning (B.Bank.state bank.old)) table.now.rows (L.Layout.slot layout.now) n s) (n - 2) survey }
-    requires missing { is_some (columns_in (B.Bank.meaning (B.Bank.state bank.old)) table.now.rows (L.Layout.slot layout.now) n s t) ≡ false }
-    ensures same { B.Bank.meaning (B.Bank.state bank.new) ≡ B.Bank.meaning (B.Bank.state bank.old) }
-    ensures value { into.new ≡ recovered (C.Code.coding code.now) (n - 2) (columns_in (B.Bank.meaning (B.Bank.state bank.old)) table.now.rows (L.Layout.slot layout.now) n s) t }
+    requires surveyed { Surveyed (columns_in (slots_in B.Bank bank.old) table.now.rows (L.Layout.slot layout.now) n s) (n - 2) survey }
+    requires missing { is_some (columns_in (slots_in B.Bank bank.old) table.now.rows (L.Layout.slot layout.now) n s t) ≡ false }
+    ensures same { slots_in B.Bank bank.new ≡ slots_in B.Bank bank.old }
+    ensures value { into.new ≡ recovered (C.Code.coding code.now) (n - 2) (columns_in (slots_in B.Bank bank.old) table.now.rows (L.Layout.slot layout.now) n s) t }
 {
     let way = survey.lost.way(n - 2, survey.p, t);
     let mut mixed = [0u8; BLOCK];

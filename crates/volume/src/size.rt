@@ -5,7 +5,7 @@ ghost use Rattle.contents.specs.Shapes.{fit};
 ghost use Rattle.bank.specs.Slots.{told};
 ghost use Rattle.volume.specs.Forming.{parts_size};
 ghost use Rattle.volume.specs.Sizes.{settled, size_of, Fitting};
-ghost use Rattle.volume.specs.Slots.{members_of};
+ghost use Rattle.volume.specs.Slots.{members_in, slots_in};
 
 use crate::walks::smallest_count;
 use bank::Bank;
@@ -46,7 +46,7 @@ pub fn size_with<C: Code>(code: &C, size: Size) -> Size
 
 // The size that a code and a bank make: nothing where they do not fit.
 pub fn parts_size<C: Code, B: Bank>(code: &C, bank: &B) -> Size
-    ensures value { result ≡ parts_size (C.Code.coding code.now).limit (told (B.Bank.meaning (B.Bank.state bank.now)).size) (members_of (B.Bank.meaning (B.Bank.state bank.now))) }
+    ensures value { result ≡ parts_size (C.Code.coding code.now).limit (told (slots_in B.Bank bank.now).size) (members_in B.Bank bank.now) }
 {
     let slots = bank.len();
     if slots > MOST_SLOTS {

@@ -6,9 +6,9 @@ ghost use Rattle.parity.specs.Ways.{recovered};
 ghost use Rattle.contents.specs.Columns.{loss_of};
 ghost use Rattle.contents.specs.Refusals.{outcome, with_loss};
 ghost use Rattle.contents.specs.Answers.{read_outcome, read_leaves};
-ghost use Rattle.volume.specs.Slots.{members_of, frontier_of, columns_in};
+ghost use Rattle.volume.specs.Slots.{frontier_of, columns_in, members_in, slots_in};
 ghost use Rattle.contents.specs.Theorems.{Reading, Losing};
-ghost use Rattle.volume.specs.Volumes.{means, shape, members, frontiers, Kept};
+ghost use Rattle.volume.specs.Volumes.{shape, members, frontiers, Kept};
 
 use crate::size::size_with;
 use crate::slots::SlotTable;
@@ -32,9 +32,9 @@ fn read_column<C: Code, L: Layout, B: Bank>(
 ) -> Result<(), Refusal>
     requires shape { (2 ≤ n) × (n ≤ 18) × (n - 2 ≤ (C.Code.coding code.now).limit) }
     requires sized { length into.old ≡ block_size }
-    ensures answered { outcome result ≡ (if not (is_some (columns_in (B.Bank.meaning (B.Bank.state bank.old)) table.now.rows (L.Layout.slot layout.now) n s t)) && nat_lt 2 (missing (columns_in (B.Bank.meaning (B.Bank.state bank.old)) table.now.rows (L.Layout.slot layout.now) n s) ((n - 2) + 2)) then Err (with_loss 4 (loss_of (members_of (B.Bank.meaning (B.Bank.state bank.old))) (frontier_of table.now.rows) n s)) else Ok tt) }
-    ensures after { into.new ≡ (if is_ok result then recovered (C.Code.coding code.now) (n - 2) (columns_in (B.Bank.meaning (B.Bank.state bank.old)) table.now.rows (L.Layout.slot layout.now) n s) t else into.old) }
-    ensures same { B.Bank.meaning (B.Bank.state bank.new) ≡ B.Bank.meaning (B.Bank.state bank.old) }
+    ensures answered { outcome result ≡ (if not (is_some (columns_in (slots_in B.Bank bank.old) table.now.rows (L.Layout.slot layout.now) n s t)) && nat_lt 2 (missing (columns_in (slots_in B.Bank bank.old) table.now.rows (L.Layout.slot layout.now) n s) ((n - 2) + 2)) then Err (with_loss 4 (loss_of (members_in B.Bank bank.old) (frontier_of table.now.rows) n s)) else Ok tt) }
+    ensures after { into.new ≡ (if is_ok result then recovered (C.Code.coding code.now) (n - 2) (columns_in (slots_in B.Bank bank.old) table.now.rows (L.Layout.slot layout.now) n s) t else into.old) }
+    ensures same { slots_in B.Bank bank.new ≡ slots_in B.Bank bank.old }
 {
     if load(layout, n, table, bank, s, t, into) {
         return Ok(());
@@ -50,12 +50,12 @@ fn read_column<C: Code, L: Layout, B: Bank>(
 impl<C: Code, L: Layout, B: Bank> Volume<C, L, B> {
     // Writes a block of the volume into the buffer: what its member holds, or what the others recover.
     pub fn read(&mut self, block: usize, buffer: &mut [u8]) -> Result<(), Refusal>
-        ensures answered { outcome result ≡ read_outcome (shape (means C.Code.coding L.Layout.slot L.Layout.column B.Bank.state B.Bank.meaning) self.old) (members (means C.Code.coding L.Layout.slot L.Layout.column B.Bank.state B.Bank.meaning) self.old) (frontiers (means C.Code.coding L.Layout.slot L.Layout.column B.Bank.state B.Bank.meaning) self.old) block (length buffer.old) }
-        ensures after { buffer.new ≡ read_leaves (shape (means C.Code.coding L.Layout.slot L.Layout.column B.Bank.state B.Bank.meaning) self.old) (members (means C.Code.coding L.Layout.slot L.Layout.column B.Bank.state B.Bank.meaning) self.old) (frontiers (means C.Code.coding L.Layout.slot L.Layout.column B.Bank.state B.Bank.meaning) self.old) block buffer.old }
-        ensures same { B.Bank.meaning (B.Bank.state self.new.bank) ≡ B.Bank.meaning (B.Bank.state self.old.bank) }
+        ensures answered { outcome result ≡ read_outcome (shape C.Code L.Layout self.old) (members B.Bank self.old) (frontiers self.old) block (length buffer.old) }
+        ensures after { buffer.new ≡ read_leaves (shape C.Code L.Layout self.old) (members B.Bank self.old) (frontiers self.old) block buffer.old }
+        ensures same { slots_in B.Bank self.new.bank ≡ slots_in B.Bank self.old.bank }
         ensures kept { Kept self.old self.new }
-        ensures right { Reading (shape (means C.Code.coding L.Layout.slot L.Layout.column B.Bank.state B.Bank.meaning) self.old) (members (means C.Code.coding L.Layout.slot L.Layout.column B.Bank.state B.Bank.meaning) self.old) (frontiers (means C.Code.coding L.Layout.slot L.Layout.column B.Bank.state B.Bank.meaning) self.old) }
-        ensures loss { Losing (shape (means C.Code.coding L.Layout.slot L.Layout.column B.Bank.state B.Bank.meaning) self.old) (members (means C.Code.coding L.Layout.slot L.Layout.column B.Bank.state B.Bank.meaning) self.old) (frontiers (means C.Code.coding L.Layout.slot L.Layout.column B.Bank.state B.Bank.meaning) self.old) }
+        ensures right { Reading (shape C.Code L.Layout self.old) (members B.Bank self.old) (frontiers self.old) }
+        ensures loss { Losing (shape C.Code L.Layout self.old) (members B.Bank self.old) (frontiers self.old) }
     {
         let size = size_with(&self.code, self.size);
         if buffer.len() != BLOCK {

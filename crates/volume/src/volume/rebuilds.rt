@@ -11,9 +11,9 @@ ghost use Rattle.contents.specs.Shapes.{lossy, loss_at, recovered_at, Roomy};
 ghost use Rattle.contents.specs.Changes.{Moved};
 ghost use Rattle.contents.specs.Theorems.{CountsKept, TellsLoss};
 ghost use Rattle.contents.specs.Rebuilds.{event_records, replace_outcome, open_outcome, step_outcome, step_fault, close_outcome, rebuilt, fault_of, open_here, ReplaceChanges, StepChanges, FitsOver};
-ghost use Rattle.volume.specs.Slots.{members_of, frontier_of};
+ghost use Rattle.volume.specs.Slots.{frontier_of, members_in};
 ghost use Rattle.volume.specs.Sizes.{Fitting, shape_at};
-ghost use Rattle.volume.specs.Volumes.{means, shape, members, records, PartsKept, ordered};
+ghost use Rattle.volume.specs.Volumes.{shape, members, records, PartsKept, ordered};
 
 use crate::size::{Size, size_with};
 use crate::slots::SlotTable;
@@ -60,10 +60,10 @@ fn rebuild_column<C: Code, L: Layout, B: Bank>(
     requires fitting { Fitting (C.Code.coding code.now).limit size }
     requires within { (slot < size.slots) × (s < size.stripes) }
     requires behind { frontier_of table.now.rows slot ≤ s }
-    ensures answered { Roomy (shape_at (C.Code.coding code.now) (L.Layout.slot layout.now) (L.Layout.column layout.now) size) (members_of (B.Bank.meaning (B.Bank.state bank.old))) → outcome result ≡ (if lossy (shape_at (C.Code.coding code.now) (L.Layout.slot layout.now) (L.Layout.column layout.now) size) (members_of (B.Bank.meaning (B.Bank.state bank.old))) (frontier_of table.now.rows) s then Err (with_loss 4 (loss_at (shape_at (C.Code.coding code.now) (L.Layout.slot layout.now) (L.Layout.column layout.now) size) (members_of (B.Bank.meaning (B.Bank.state bank.old))) (frontier_of table.now.rows) s)) else answering tt (rebuilt (write_refusal ((members_of (B.Bank.meaning (B.Bank.state bank.old))) slot) s block_size) s)) }
-    ensures fault { Roomy (shape_at (C.Code.coding code.now) (L.Layout.slot layout.now) (L.Layout.column layout.now) size) (members_of (B.Bank.meaning (B.Bank.state bank.old))) → fault_of result ≡ (if lossy (shape_at (C.Code.coding code.now) (L.Layout.slot layout.now) (L.Layout.column layout.now) size) (members_of (B.Bank.meaning (B.Bank.state bank.old))) (frontier_of table.now.rows) s then None else write_refusal ((members_of (B.Bank.meaning (B.Bank.state bank.old))) slot) s block_size) }
-    ensures taken { lossy (shape_at (C.Code.coding code.now) (L.Layout.slot layout.now) (L.Layout.column layout.now) size) (members_of (B.Bank.meaning (B.Bank.state bank.old))) (frontier_of table.now.rows) s ≡ false → Moved (λ a b. Written a s (recovered_at (shape_at (C.Code.coding code.now) (L.Layout.slot layout.now) (L.Layout.column layout.now) size) (members_of (B.Bank.meaning (B.Bank.state bank.old))) (frontier_of table.now.rows) s (L.Layout.column layout.now size.slots s slot)) b) slot (members_of (B.Bank.meaning (B.Bank.state bank.old))) (members_of (B.Bank.meaning (B.Bank.state bank.new))) }
-    ensures refused { lossy (shape_at (C.Code.coding code.now) (L.Layout.slot layout.now) (L.Layout.column layout.now) size) (members_of (B.Bank.meaning (B.Bank.state bank.old))) (frontier_of table.now.rows) s ≡ true → (members_of (B.Bank.meaning (B.Bank.state bank.new))) ≡ (members_of (B.Bank.meaning (B.Bank.state bank.old))) }
+    ensures answered { Roomy (shape_at (C.Code.coding code.now) (L.Layout.slot layout.now) (L.Layout.column layout.now) size) (members_in B.Bank bank.old) → outcome result ≡ (if lossy (shape_at (C.Code.coding code.now) (L.Layout.slot layout.now) (L.Layout.column layout.now) size) (members_in B.Bank bank.old) (frontier_of table.now.rows) s then Err (with_loss 4 (loss_at (shape_at (C.Code.coding code.now) (L.Layout.slot layout.now) (L.Layout.column layout.now) size) (members_in B.Bank bank.old) (frontier_of table.now.rows) s)) else answering tt (rebuilt (write_refusal ((members_in B.Bank bank.old) slot) s block_size) s)) }
+    ensures fault { Roomy (shape_at (C.Code.coding code.now) (L.Layout.slot layout.now) (L.Layout.column layout.now) size) (members_in B.Bank bank.old) → fault_of result ≡ (if lossy (shape_at (C.Code.coding code.now) (L.Layout.slot layout.now) (L.Layout.column layout.now) size) (members_in B.Bank bank.old) (frontier_of table.now.rows) s then None else write_refusal ((members_in B.Bank bank.old) slot) s block_size) }
+    ensures taken { lossy (shape_at (C.Code.coding code.now) (L.Layout.slot layout.now) (L.Layout.column layout.now) size) (members_in B.Bank bank.old) (frontier_of table.now.rows) s ≡ false → Moved (λ a b. Written a s (recovered_at (shape_at (C.Code.coding code.now) (L.Layout.slot layout.now) (L.Layout.column layout.now) size) (members_in B.Bank bank.old) (frontier_of table.now.rows) s (L.Layout.column layout.now size.slots s slot)) b) slot (members_in B.Bank bank.old) (members_in B.Bank bank.new) }
+    ensures refused { lossy (shape_at (C.Code.coding code.now) (L.Layout.slot layout.now) (L.Layout.column layout.now) size) (members_in B.Bank bank.old) (frontier_of table.now.rows) s ≡ true → (members_in B.Bank bank.new) ≡ (members_in B.Bank bank.old) }
 {
     let survey = survey_of(layout, size.slots, table, bank, s);
     if survey.missing > 2 {
@@ -88,11 +88,11 @@ fn rebuild_column<C: Code, L: Layout, B: Bank>(
 impl<C: Code, L: Layout, B: Bank> Volume<C, L, B> {
     // Puts a fresh member in the place of a slot's: nothing of the volume is in it until it is rebuilt.
     pub fn replace(&mut self, slot: usize) -> Result<(), Refusal>
-        ensures answered { outcome result ≡ replace_outcome (shape (means C.Code.coding L.Layout.slot L.Layout.column B.Bank.state B.Bank.meaning) self.old) (records (means C.Code.coding L.Layout.slot L.Layout.column B.Bank.state B.Bank.meaning) self.old) slot }
-        ensures changes { ReplaceChanges (shape (means C.Code.coding L.Layout.slot L.Layout.column B.Bank.state B.Bank.meaning) self.old) (members (means C.Code.coding L.Layout.slot L.Layout.column B.Bank.state B.Bank.meaning) self.old) (records (means C.Code.coding L.Layout.slot L.Layout.column B.Bank.state B.Bank.meaning) self.old) slot (members (means C.Code.coding L.Layout.slot L.Layout.column B.Bank.state B.Bank.meaning) self.new) (records (means C.Code.coding L.Layout.slot L.Layout.column B.Bank.state B.Bank.meaning) self.new) }
+        ensures answered { outcome result ≡ replace_outcome (shape C.Code L.Layout self.old) (records self.old) slot }
+        ensures changes { ReplaceChanges (shape C.Code L.Layout self.old) (members B.Bank self.old) (records self.old) slot (members B.Bank self.new) (records self.new) }
         ensures exact { B.Bank.state self.new.bank ≡ (if is_ok result then B.Bank.renewed (B.Bank.state self.old.bank) slot else B.Bank.state self.old.bank) }
         ensures kept { PartsKept self.old self.new }
-        ensures right { FitsOver (shape (means C.Code.coding L.Layout.slot L.Layout.column B.Bank.state B.Bank.meaning) self.old) (members (means C.Code.coding L.Layout.slot L.Layout.column B.Bank.state B.Bank.meaning) self.old) (records (means C.Code.coding L.Layout.slot L.Layout.column B.Bank.state B.Bank.meaning) self.old) (members (means C.Code.coding L.Layout.slot L.Layout.column B.Bank.state B.Bank.meaning) self.new) (records (means C.Code.coding L.Layout.slot L.Layout.column B.Bank.state B.Bank.meaning) self.new) × CountsKept (members (means C.Code.coding L.Layout.slot L.Layout.column B.Bank.state B.Bank.meaning) self.old) (members (means C.Code.coding L.Layout.slot L.Layout.column B.Bank.state B.Bank.meaning) self.new) }
+        ensures right { FitsOver (shape C.Code L.Layout self.old) (members B.Bank self.old) (records self.old) (members B.Bank self.new) (records self.new) × CountsKept (members B.Bank self.old) (members B.Bank self.new) }
     {
         let size = size_with(&self.code, self.size);
         if slot >= size.slots {
@@ -105,11 +105,11 @@ impl<C: Code, L: Layout, B: Bank> Volume<C, L, B> {
 
     // Opens a slot to be rebuilt, and hands out the order for it.
     pub fn open(&mut self, slot: usize) -> Result<Order, Refusal>
-        ensures answered { ordered result ≡ open_outcome (shape (means C.Code.coding L.Layout.slot L.Layout.column B.Bank.state B.Bank.meaning) self.old) (records (means C.Code.coding L.Layout.slot L.Layout.column B.Bank.state B.Bank.meaning) self.old) slot }
+        ensures answered { ordered result ≡ open_outcome (shape C.Code L.Layout self.old) (records self.old) slot }
         ensures bank { self.new.bank ≡ self.old.bank }
-        ensures records { (records (means C.Code.coding L.Layout.slot L.Layout.column B.Bank.state B.Bank.meaning) self.new) ≡ event_records (shape (means C.Code.coding L.Layout.slot L.Layout.column B.Bank.state B.Bank.meaning) self.old) (records (means C.Code.coding L.Layout.slot L.Layout.column B.Bank.state B.Bank.meaning) self.old) slot Opened }
+        ensures records { (records self.new) ≡ event_records (shape C.Code L.Layout self.old) (records self.old) slot Opened }
         ensures kept { PartsKept self.old self.new }
-        ensures right { FitsOver (shape (means C.Code.coding L.Layout.slot L.Layout.column B.Bank.state B.Bank.meaning) self.old) (members (means C.Code.coding L.Layout.slot L.Layout.column B.Bank.state B.Bank.meaning) self.old) (records (means C.Code.coding L.Layout.slot L.Layout.column B.Bank.state B.Bank.meaning) self.old) (members (means C.Code.coding L.Layout.slot L.Layout.column B.Bank.state B.Bank.meaning) self.old) (records (means C.Code.coding L.Layout.slot L.Layout.column B.Bank.state B.Bank.meaning) self.new) }
+        ensures right { FitsOver (shape C.Code L.Layout self.old) (members B.Bank self.old) (records self.old) (members B.Bank self.old) (records self.new) }
     {
         let size = size_with(&self.code, self.size);
         if slot >= size.slots {
@@ -121,12 +121,12 @@ impl<C: Code, L: Layout, B: Bank> Volume<C, L, B> {
 
     // Rebuilds one more stripe of the order's slot, and answers the new frontier. Where the member refuses it, the frontier stays.
     pub fn step(&mut self, order: &Order) -> Result<usize, Refusal>
-        ensures answered { Roomy (shape (means C.Code.coding L.Layout.slot L.Layout.column B.Bank.state B.Bank.meaning) self.old) (members (means C.Code.coding L.Layout.slot L.Layout.column B.Bank.state B.Bank.meaning) self.old) → outcome result ≡ step_outcome (shape (means C.Code.coding L.Layout.slot L.Layout.column B.Bank.state B.Bank.meaning) self.old) (members (means C.Code.coding L.Layout.slot L.Layout.column B.Bank.state B.Bank.meaning) self.old) (records (means C.Code.coding L.Layout.slot L.Layout.column B.Bank.state B.Bank.meaning) self.old) order.now.slot }
-        ensures fault { Roomy (shape (means C.Code.coding L.Layout.slot L.Layout.column B.Bank.state B.Bank.meaning) self.old) (members (means C.Code.coding L.Layout.slot L.Layout.column B.Bank.state B.Bank.meaning) self.old) → fault_of result ≡ step_fault (shape (means C.Code.coding L.Layout.slot L.Layout.column B.Bank.state B.Bank.meaning) self.old) (members (means C.Code.coding L.Layout.slot L.Layout.column B.Bank.state B.Bank.meaning) self.old) (records (means C.Code.coding L.Layout.slot L.Layout.column B.Bank.state B.Bank.meaning) self.old) order.now.slot }
-        ensures changes { Roomy (shape (means C.Code.coding L.Layout.slot L.Layout.column B.Bank.state B.Bank.meaning) self.old) (members (means C.Code.coding L.Layout.slot L.Layout.column B.Bank.state B.Bank.meaning) self.old) → StepChanges (shape (means C.Code.coding L.Layout.slot L.Layout.column B.Bank.state B.Bank.meaning) self.old) (members (means C.Code.coding L.Layout.slot L.Layout.column B.Bank.state B.Bank.meaning) self.old) (records (means C.Code.coding L.Layout.slot L.Layout.column B.Bank.state B.Bank.meaning) self.old) order.now.slot (members (means C.Code.coding L.Layout.slot L.Layout.column B.Bank.state B.Bank.meaning) self.new) (records (means C.Code.coding L.Layout.slot L.Layout.column B.Bank.state B.Bank.meaning) self.new) }
+        ensures answered { Roomy (shape C.Code L.Layout self.old) (members B.Bank self.old) → outcome result ≡ step_outcome (shape C.Code L.Layout self.old) (members B.Bank self.old) (records self.old) order.now.slot }
+        ensures fault { Roomy (shape C.Code L.Layout self.old) (members B.Bank self.old) → fault_of result ≡ step_fault (shape C.Code L.Layout self.old) (members B.Bank self.old) (records self.old) order.now.slot }
+        ensures changes { Roomy (shape C.Code L.Layout self.old) (members B.Bank self.old) → StepChanges (shape C.Code L.Layout self.old) (members B.Bank self.old) (records self.old) order.now.slot (members B.Bank self.new) (records self.new) }
         ensures kept { PartsKept self.old self.new }
-        ensures right { Roomy (shape (means C.Code.coding L.Layout.slot L.Layout.column B.Bank.state B.Bank.meaning) self.old) (members (means C.Code.coding L.Layout.slot L.Layout.column B.Bank.state B.Bank.meaning) self.old) → FitsOver (shape (means C.Code.coding L.Layout.slot L.Layout.column B.Bank.state B.Bank.meaning) self.old) (members (means C.Code.coding L.Layout.slot L.Layout.column B.Bank.state B.Bank.meaning) self.old) (records (means C.Code.coding L.Layout.slot L.Layout.column B.Bank.state B.Bank.meaning) self.old) (members (means C.Code.coding L.Layout.slot L.Layout.column B.Bank.state B.Bank.meaning) self.new) (records (means C.Code.coding L.Layout.slot L.Layout.column B.Bank.state B.Bank.meaning) self.new) × CountsKept (members (means C.Code.coding L.Layout.slot L.Layout.column B.Bank.state B.Bank.meaning) self.old) (members (means C.Code.coding L.Layout.slot L.Layout.column B.Bank.state B.Bank.meaning) self.new) }
-        ensures loss { open_here (shape (means C.Code.coding L.Layout.slot L.Layout.column B.Bank.state B.Bank.meaning) self.old) (records (means C.Code.coding L.Layout.slot L.Layout.column B.Bank.state B.Bank.meaning) self.old) order.now.slot ≡ true → ((records (means C.Code.coding L.Layout.slot L.Layout.column B.Bank.state B.Bank.meaning) self.old) order.now.slot).frontier < (shape (means C.Code.coding L.Layout.slot L.Layout.column B.Bank.state B.Bank.meaning) self.old).stripes → TellsLoss (shape (means C.Code.coding L.Layout.slot L.Layout.column B.Bank.state B.Bank.meaning) self.old) (members (means C.Code.coding L.Layout.slot L.Layout.column B.Bank.state B.Bank.meaning) self.old) (frontiers (records (means C.Code.coding L.Layout.slot L.Layout.column B.Bank.state B.Bank.meaning) self.old)) ((records (means C.Code.coding L.Layout.slot L.Layout.column B.Bank.state B.Bank.meaning) self.old) order.now.slot).frontier (step_outcome (shape (means C.Code.coding L.Layout.slot L.Layout.column B.Bank.state B.Bank.meaning) self.old) (members (means C.Code.coding L.Layout.slot L.Layout.column B.Bank.state B.Bank.meaning) self.old) (records (means C.Code.coding L.Layout.slot L.Layout.column B.Bank.state B.Bank.meaning) self.old) order.now.slot) }
+        ensures right { Roomy (shape C.Code L.Layout self.old) (members B.Bank self.old) → FitsOver (shape C.Code L.Layout self.old) (members B.Bank self.old) (records self.old) (members B.Bank self.new) (records self.new) × CountsKept (members B.Bank self.old) (members B.Bank self.new) }
+        ensures loss { open_here (shape C.Code L.Layout self.old) (records self.old) order.now.slot ≡ true → ((records self.old) order.now.slot).frontier < (shape C.Code L.Layout self.old).stripes → TellsLoss (shape C.Code L.Layout self.old) (members B.Bank self.old) (frontiers (records self.old)) ((records self.old) order.now.slot).frontier (step_outcome (shape C.Code L.Layout self.old) (members B.Bank self.old) (records self.old) order.now.slot) }
     {
         let size = size_with(&self.code, self.size);
         let Some(stripe) = self.table.open_frontier(size.slots, order.slot) else {
@@ -150,11 +150,11 @@ impl<C: Code, L: Layout, B: Bank> Volume<C, L, B> {
 
     // Ends the rebuild of the order's slot, and answers how far it came. The order is used up, whatever is answered.
     pub fn close(&mut self, order: Order) -> Result<usize, Refusal>
-        ensures answered { outcome result ≡ close_outcome (shape (means C.Code.coding L.Layout.slot L.Layout.column B.Bank.state B.Bank.meaning) self.old) (records (means C.Code.coding L.Layout.slot L.Layout.column B.Bank.state B.Bank.meaning) self.old) order.slot }
+        ensures answered { outcome result ≡ close_outcome (shape C.Code L.Layout self.old) (records self.old) order.slot }
         ensures bank { self.new.bank ≡ self.old.bank }
-        ensures records { (records (means C.Code.coding L.Layout.slot L.Layout.column B.Bank.state B.Bank.meaning) self.new) ≡ event_records (shape (means C.Code.coding L.Layout.slot L.Layout.column B.Bank.state B.Bank.meaning) self.old) (records (means C.Code.coding L.Layout.slot L.Layout.column B.Bank.state B.Bank.meaning) self.old) order.slot Closed }
+        ensures records { (records self.new) ≡ event_records (shape C.Code L.Layout self.old) (records self.old) order.slot Closed }
         ensures kept { PartsKept self.old self.new }
-        ensures right { FitsOver (shape (means C.Code.coding L.Layout.slot L.Layout.column B.Bank.state B.Bank.meaning) self.old) (members (means C.Code.coding L.Layout.slot L.Layout.column B.Bank.state B.Bank.meaning) self.old) (records (means C.Code.coding L.Layout.slot L.Layout.column B.Bank.state B.Bank.meaning) self.old) (members (means C.Code.coding L.Layout.slot L.Layout.column B.Bank.state B.Bank.meaning) self.old) (records (means C.Code.coding L.Layout.slot L.Layout.column B.Bank.state B.Bank.meaning) self.new) }
+        ensures right { FitsOver (shape C.Code L.Layout self.old) (members B.Bank self.old) (records self.old) (members B.Bank self.old) (records self.new) }
     {
         let size = size_with(&self.code, self.size);
         let Order { slot } = order;

@@ -6,11 +6,11 @@ ghost use Rattle.contents.specs.Refusals.{outcome, with_loss};
 ghost use Rattle.contents.specs.Changes.{Moved, Steps, Put, Scrubbed, ScrubChanges};
 ghost use Rattle.contents.specs.Answers.{scrub_outcome};
 ghost use Rattle.contents.specs.Shapes.{lossy, loss_at, Roomy};
-ghost use Rattle.volume.specs.Slots.{members_of, frontier_of, columns_in, Surveyed};
+ghost use Rattle.volume.specs.Slots.{frontier_of, columns_in, Surveyed, members_in, slots_in};
 ghost use Rattle.volume.specs.Sizes.{Fitting, shape_at};
 ghost use Rattle.volume.specs.Tallies.{tally_of, with_standing, with_mend, counted};
 ghost use Rattle.contents.specs.Theorems.{Scrubbing, Losing};
-ghost use Rattle.volume.specs.Volumes.{means, shape, members, frontiers, Kept};
+ghost use Rattle.volume.specs.Volumes.{shape, members, frontiers, Kept};
 
 use crate::members::status_of;
 use crate::size::{Size, size_with};
@@ -98,9 +98,9 @@ fn scrub_slots<C: Code, L: Layout, B: Bank>(
     survey: Survey,
 ) -> Tally
     requires shape { (2 ≤ n) × (n ≤ 18) × (n - 2 ≤ (C.Code.coding code.now).limit) × (i ≤ n) }
-    requires surveyed { Surveyed (columns_in (B.Bank.meaning (B.Bank.state bank.old)) table.now.rows (L.Layout.slot layout.now) n s) (n - 2) survey }
-    ensures steps { Steps i (λ j. Moved (Put (is_unreadable (status (members_of (B.Bank.meaning (B.Bank.state bank.old))) (frontier_of table.now.rows) s j)) s (recovered (C.Code.coding code.now) (n - 2) (columns_in (B.Bank.meaning (B.Bank.state bank.old)) table.now.rows (L.Layout.slot layout.now) n s) (L.Layout.column layout.now n s j))) j) (members_of (B.Bank.meaning (B.Bank.state bank.old))) (members_of (B.Bank.meaning (B.Bank.state bank.new))) }
-    ensures tally { result ≡ tally_of (members_of (B.Bank.meaning (B.Bank.state bank.old))) (frontier_of table.now.rows) s i }
+    requires surveyed { Surveyed (columns_in (slots_in B.Bank bank.old) table.now.rows (L.Layout.slot layout.now) n s) (n - 2) survey }
+    ensures steps { Steps i (λ j. Moved (Put (is_unreadable (status (members_in B.Bank bank.old) (frontier_of table.now.rows) s j)) s (recovered (C.Code.coding code.now) (n - 2) (columns_in (slots_in B.Bank bank.old) table.now.rows (L.Layout.slot layout.now) n s) (L.Layout.column layout.now n s j))) j) (members_in B.Bank bank.old) (members_in B.Bank bank.new) }
+    ensures tally { result ≡ tally_of (members_in B.Bank bank.old) (frontier_of table.now.rows) s i }
 {
     if i == 0 {
         return Tally {
@@ -144,9 +144,9 @@ fn scrub_stripe<C: Code, L: Layout, B: Bank>(
 ) -> Result<(usize, usize, usize), Refusal>
     requires fitting { Fitting (C.Code.coding code.now).limit size }
     requires within { s < size.stripes }
-    ensures answered { outcome result ≡ (if lossy (shape_at (C.Code.coding code.now) (L.Layout.slot layout.now) (L.Layout.column layout.now) size) (members_of (B.Bank.meaning (B.Bank.state bank.old))) (frontier_of table.now.rows) s then Err (with_loss 4 (loss_at (shape_at (C.Code.coding code.now) (L.Layout.slot layout.now) (L.Layout.column layout.now) size) (members_of (B.Bank.meaning (B.Bank.state bank.old))) (frontier_of table.now.rows) s)) else Ok (counted (shape_at (C.Code.coding code.now) (L.Layout.slot layout.now) (L.Layout.column layout.now) size) (members_of (B.Bank.meaning (B.Bank.state bank.old))) (frontier_of table.now.rows) s)) }
-    ensures taken { lossy (shape_at (C.Code.coding code.now) (L.Layout.slot layout.now) (L.Layout.column layout.now) size) (members_of (B.Bank.meaning (B.Bank.state bank.old))) (frontier_of table.now.rows) s ≡ false → Scrubbed (shape_at (C.Code.coding code.now) (L.Layout.slot layout.now) (L.Layout.column layout.now) size) (members_of (B.Bank.meaning (B.Bank.state bank.old))) (frontier_of table.now.rows) s (members_of (B.Bank.meaning (B.Bank.state bank.new))) }
-    ensures refused { lossy (shape_at (C.Code.coding code.now) (L.Layout.slot layout.now) (L.Layout.column layout.now) size) (members_of (B.Bank.meaning (B.Bank.state bank.old))) (frontier_of table.now.rows) s ≡ true → (members_of (B.Bank.meaning (B.Bank.state bank.new))) ≡ (members_of (B.Bank.meaning (B.Bank.state bank.old))) }
+    ensures answered { outcome result ≡ (if lossy (shape_at (C.Code.coding code.now) (L.Layout.slot layout.now) (L.Layout.column layout.now) size) (members_in B.Bank bank.old) (frontier_of table.now.rows) s then Err (with_loss 4 (loss_at (shape_at (C.Code.coding code.now) (L.Layout.slot layout.now) (L.Layout.column layout.now) size) (members_in B.Bank bank.old) (frontier_of table.now.rows) s)) else Ok (counted (shape_at (C.Code.coding code.now) (L.Layout.slot layout.now) (L.Layout.column layout.now) size) (members_in B.Bank bank.old) (frontier_of table.now.rows) s)) }
+    ensures taken { lossy (shape_at (C.Code.coding code.now) (L.Layout.slot layout.now) (L.Layout.column layout.now) size) (members_in B.Bank bank.old) (frontier_of table.now.rows) s ≡ false → Scrubbed (shape_at (C.Code.coding code.now) (L.Layout.slot layout.now) (L.Layout.column layout.now) size) (members_in B.Bank bank.old) (frontier_of table.now.rows) s (members_in B.Bank bank.new) }
+    ensures refused { lossy (shape_at (C.Code.coding code.now) (L.Layout.slot layout.now) (L.Layout.column layout.now) size) (members_in B.Bank bank.old) (frontier_of table.now.rows) s ≡ true → (members_in B.Bank bank.new) ≡ (members_in B.Bank bank.old) }
 {
     let survey = survey_of(layout, size.slots, table, bank, s);
     if survey.missing > 2 {
@@ -160,11 +160,11 @@ impl<C: Code, L: Layout, B: Bank> Volume<C, L, B> {
     // Writes the unreadable columns of a stripe anew. Answers how many were mended, how many a member refused, and how many are gone
     // or behind.
     pub fn scrub(&mut self, stripe: usize) -> Result<(usize, usize, usize), Refusal>
-        ensures answered { outcome result ≡ scrub_outcome (shape (means C.Code.coding L.Layout.slot L.Layout.column B.Bank.state B.Bank.meaning) self.old) (members (means C.Code.coding L.Layout.slot L.Layout.column B.Bank.state B.Bank.meaning) self.old) (frontiers (means C.Code.coding L.Layout.slot L.Layout.column B.Bank.state B.Bank.meaning) self.old) stripe }
-        ensures changes { ScrubChanges (shape (means C.Code.coding L.Layout.slot L.Layout.column B.Bank.state B.Bank.meaning) self.old) (members (means C.Code.coding L.Layout.slot L.Layout.column B.Bank.state B.Bank.meaning) self.old) (frontiers (means C.Code.coding L.Layout.slot L.Layout.column B.Bank.state B.Bank.meaning) self.old) stripe (members (means C.Code.coding L.Layout.slot L.Layout.column B.Bank.state B.Bank.meaning) self.new) }
+        ensures answered { outcome result ≡ scrub_outcome (shape C.Code L.Layout self.old) (members B.Bank self.old) (frontiers self.old) stripe }
+        ensures changes { ScrubChanges (shape C.Code L.Layout self.old) (members B.Bank self.old) (frontiers self.old) stripe (members B.Bank self.new) }
         ensures kept { Kept self.old self.new }
-        ensures right { Roomy (shape (means C.Code.coding L.Layout.slot L.Layout.column B.Bank.state B.Bank.meaning) self.old) (members (means C.Code.coding L.Layout.slot L.Layout.column B.Bank.state B.Bank.meaning) self.old) → Scrubbing (shape (means C.Code.coding L.Layout.slot L.Layout.column B.Bank.state B.Bank.meaning) self.old) (members (means C.Code.coding L.Layout.slot L.Layout.column B.Bank.state B.Bank.meaning) self.old) (frontiers (means C.Code.coding L.Layout.slot L.Layout.column B.Bank.state B.Bank.meaning) self.old) stripe (members (means C.Code.coding L.Layout.slot L.Layout.column B.Bank.state B.Bank.meaning) self.new) }
-        ensures loss { Losing (shape (means C.Code.coding L.Layout.slot L.Layout.column B.Bank.state B.Bank.meaning) self.old) (members (means C.Code.coding L.Layout.slot L.Layout.column B.Bank.state B.Bank.meaning) self.old) (frontiers (means C.Code.coding L.Layout.slot L.Layout.column B.Bank.state B.Bank.meaning) self.old) }
+        ensures right { Roomy (shape C.Code L.Layout self.old) (members B.Bank self.old) → Scrubbing (shape C.Code L.Layout self.old) (members B.Bank self.old) (frontiers self.old) stripe (members B.Bank self.new) }
+        ensures loss { Losing (shape C.Code L.Layout self.old) (members B.Bank self.old) (frontiers self.old) }
     {
         let size = size_with(&self.code, self.size);
         if stripe >= size.stripes {

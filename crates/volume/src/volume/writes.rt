@@ -8,11 +8,11 @@ ghost use Rattle.contents.specs.Refusals.{outcome, with_loss};
 ghost use Rattle.contents.specs.Changes.{Moved, Put, due, Spread, WriteChanges};
 ghost use Rattle.contents.specs.Answers.{after_write, write_outcome};
 ghost use Rattle.contents.specs.Shapes.{lossy, loss_at, Roomy};
-ghost use Rattle.volume.specs.Slots.{members_of, frontier_of, columns_in, Surveyed};
+ghost use Rattle.volume.specs.Slots.{frontier_of, columns_in, Surveyed, members_in, slots_in};
 ghost use Rattle.volume.specs.Sizes.{Fitting, shape_at};
 ghost use Rattle.volume.specs.Stores.{Stores};
 ghost use Rattle.contents.specs.Theorems.{Writing, Losing};
-ghost use Rattle.volume.specs.Volumes.{means, shape, members, frontiers, Kept};
+ghost use Rattle.volume.specs.Volumes.{shape, members, frontiers, Kept};
 
 use crate::size::{Size, size_with};
 use crate::slots::SlotTable;
@@ -40,9 +40,9 @@ fn fetch<C: Code, L: Layout, B: Bank>(
 )
     requires shape { (2 ≤ n) × (n - 2 ≤ (C.Code.coding code.now).limit) }
     requires sized { length into.old ≡ block_size }
-    requires surveyed { Surveyed (columns_in (B.Bank.meaning (B.Bank.state bank.old)) table.now.rows (L.Layout.slot layout.now) n s) (n - 2) survey }
-    ensures same { B.Bank.meaning (B.Bank.state bank.new) ≡ B.Bank.meaning (B.Bank.state bank.old) }
-    ensures value { into.new ≡ recovered (C.Code.coding code.now) (n - 2) (columns_in (B.Bank.meaning (B.Bank.state bank.old)) table.now.rows (L.Layout.slot layout.now) n s) t }
+    requires surveyed { Surveyed (columns_in (slots_in B.Bank bank.old) table.now.rows (L.Layout.slot layout.now) n s) (n - 2) survey }
+    ensures same { slots_in B.Bank bank.new ≡ slots_in B.Bank bank.old }
+    ensures value { into.new ≡ recovered (C.Code.coding code.now) (n - 2) (columns_in (slots_in B.Bank bank.old) table.now.rows (L.Layout.slot layout.now) n s) t }
 {
     if load(layout, n, table, bank, s, t, into) {
         return;
@@ -66,10 +66,10 @@ fn parities<C: Code, L: Layout, B: Bank>(
 )
     requires shape { (2 ≤ n) × (n - 2 ≤ (C.Code.coding code.now).limit) × (c < n - 2) × (n ≤ 18) }
     requires sizes { (length bytes.now ≡ block_size) × (length p.old ≡ block_size) × (length q.old ≡ block_size) }
-    requires surveyed { Surveyed (columns_in (B.Bank.meaning (B.Bank.state bank.old)) table.now.rows (L.Layout.slot layout.now) n s) (n - 2) survey }
-    ensures same { B.Bank.meaning (B.Bank.state bank.new) ≡ B.Bank.meaning (B.Bank.state bank.old) }
-    ensures p { p.new ≡ recovered (C.Code.coding code.now) (n - 2) (columns_in (B.Bank.meaning (B.Bank.state bank.old)) table.now.rows (L.Layout.slot layout.now) n s) (n - 2) ⊕ (recovered (C.Code.coding code.now) (n - 2) (columns_in (B.Bank.meaning (B.Bank.state bank.old)) table.now.rows (L.Layout.slot layout.now) n s) c ⊕ bytes.now) }
-    ensures q { q.new ≡ recovered (C.Code.coding code.now) (n - 2) (columns_in (B.Bank.meaning (B.Bank.state bank.old)) table.now.rows (L.Layout.slot layout.now) n s) ((n - 2) + 1) ⊕ (C.Code.coding code.now).mix c (recovered (C.Code.coding code.now) (n - 2) (columns_in (B.Bank.meaning (B.Bank.state bank.old)) table.now.rows (L.Layout.slot layout.now) n s) c ⊕ bytes.now) }
+    requires surveyed { Surveyed (columns_in (slots_in B.Bank bank.old) table.now.rows (L.Layout.slot layout.now) n s) (n - 2) survey }
+    ensures same { slots_in B.Bank bank.new ≡ slots_in B.Bank bank.old }
+    ensures p { p.new ≡ recovered (C.Code.coding code.now) (n - 2) (columns_in (slots_in B.Bank bank.old) table.now.rows (L.Layout.slot layout.now) n s) (n - 2) ⊕ (recovered (C.Code.coding code.now) (n - 2) (columns_in (slots_in B.Bank bank.old) table.now.rows (L.Layout.slot layout.now) n s) c ⊕ bytes.now) }
+    ensures q { q.new ≡ recovered (C.Code.coding code.now) (n - 2) (columns_in (slots_in B.Bank bank.old) table.now.rows (L.Layout.slot layout.now) n s) ((n - 2) + 1) ⊕ (C.Code.coding code.now).mix c (recovered (C.Code.coding code.now) (n - 2) (columns_in (slots_in B.Bank bank.old) table.now.rows (L.Layout.slot layout.now) n s) c ⊕ bytes.now) }
 {
     let mut difference = [0u8; BLOCK];
     fetch(code, layout, n, table, bank, s, c, survey, &mut difference);
@@ -89,7 +89,7 @@ fn store<L: Layout, B: Bank>(
     t: usize,
     bytes: &[u8],
 )
-    ensures stored { Moved (Put (due (members_of (B.Bank.meaning (B.Bank.state bank.old))) (frontier_of table.now.rows) s (L.Layout.slot layout.now n s t)) s bytes.now) (L.Layout.slot layout.now n s t) (members_of (B.Bank.meaning (B.Bank.state bank.old))) (members_of (B.Bank.meaning (B.Bank.state bank.new))) }
+    ensures stored { Moved (Put (due (members_in B.Bank bank.old) (frontier_of table.now.rows) s (L.Layout.slot layout.now n s t)) s bytes.now) (L.Layout.slot layout.now n s t) (members_in B.Bank bank.old) (members_in B.Bank bank.new) }
 {
     let slot = layout.slot_of(n, s, t);
     if table.has(slot, s) {
@@ -106,7 +106,7 @@ fn after_write<L: Layout, B: Bank>(
     s: usize,
 ) -> Result<usize, Refusal>
     requires few { (2 ≤ n) × (n ≤ 18) }
-    ensures answered { outcome result ≡ (if nat_lt 2 (missing (columns_in (B.Bank.meaning (B.Bank.state bank.now)) table.now.rows (L.Layout.slot layout.now) n s) ((n - 2) + 2)) then Err (with_loss 5 (loss_of (members_of (B.Bank.meaning (B.Bank.state bank.now))) (frontier_of table.now.rows) n s)) else Ok (missing (columns_in (B.Bank.meaning (B.Bank.state bank.now)) table.now.rows (L.Layout.slot layout.now) n s) ((n - 2) + 2))) }
+    ensures answered { outcome result ≡ (if nat_lt 2 (missing (columns_in (slots_in B.Bank bank.now) table.now.rows (L.Layout.slot layout.now) n s) ((n - 2) + 2)) then Err (with_loss 5 (loss_of (members_in B.Bank bank.now) (frontier_of table.now.rows) n s)) else Ok (missing (columns_in (slots_in B.Bank bank.now) table.now.rows (L.Layout.slot layout.now) n s) ((n - 2) + 2))) }
 {
     let survey = survey_of(layout, n, table, bank, s);
     if survey.missing > 2 {
@@ -128,7 +128,7 @@ fn spread<L: Layout, B: Bank>(
     q: &[u8],
 )
     requires shape { 2 ≤ n }
-    ensures stored { Stores (L.Layout.slot layout.now n s) (frontier_of table.now.rows) s (n - 2) c bytes.now p.now q.now (members_of (B.Bank.meaning (B.Bank.state bank.old))) (members_of (B.Bank.meaning (B.Bank.state bank.new))) }
+    ensures stored { Stores (L.Layout.slot layout.now n s) (frontier_of table.now.rows) s (n - 2) c bytes.now p.now q.now (members_in B.Bank bank.old) (members_in B.Bank bank.new) }
 {
     store(layout, n, table, bank, s, c, bytes);
     store(layout, n, table, bank, s, n - 2, p);
@@ -149,9 +149,9 @@ fn write_column<C: Code, L: Layout, B: Bank>(
     requires fitting { Fitting (C.Code.coding code.now).limit size }
     requires within { (s < size.stripes) × (c < size.slots - 2) }
     requires sized { length bytes.now ≡ block_size }
-    ensures answered { outcome result ≡ (if lossy (shape_at (C.Code.coding code.now) (L.Layout.slot layout.now) (L.Layout.column layout.now) size) (members_of (B.Bank.meaning (B.Bank.state bank.old))) (frontier_of table.now.rows) s then Err (with_loss 4 (loss_at (shape_at (C.Code.coding code.now) (L.Layout.slot layout.now) (L.Layout.column layout.now) size) (members_of (B.Bank.meaning (B.Bank.state bank.old))) (frontier_of table.now.rows) s)) else after_write (shape_at (C.Code.coding code.now) (L.Layout.slot layout.now) (L.Layout.column layout.now) size) (members_of (B.Bank.meaning (B.Bank.state bank.new))) (frontier_of table.now.rows) s) }
-    ensures taken { lossy (shape_at (C.Code.coding code.now) (L.Layout.slot layout.now) (L.Layout.column layout.now) size) (members_of (B.Bank.meaning (B.Bank.state bank.old))) (frontier_of table.now.rows) s ≡ false → Spread (shape_at (C.Code.coding code.now) (L.Layout.slot layout.now) (L.Layout.column layout.now) size) (members_of (B.Bank.meaning (B.Bank.state bank.old))) (frontier_of table.now.rows) s c bytes.now (members_of (B.Bank.meaning (B.Bank.state bank.new))) }
-    ensures refused { lossy (shape_at (C.Code.coding code.now) (L.Layout.slot layout.now) (L.Layout.column layout.now) size) (members_of (B.Bank.meaning (B.Bank.state bank.old))) (frontier_of table.now.rows) s ≡ true → (members_of (B.Bank.meaning (B.Bank.state bank.new))) ≡ (members_of (B.Bank.meaning (B.Bank.state bank.old))) }
+    ensures answered { outcome result ≡ (if lossy (shape_at (C.Code.coding code.now) (L.Layout.slot layout.now) (L.Layout.column layout.now) size) (members_in B.Bank bank.old) (frontier_of table.now.rows) s then Err (with_loss 4 (loss_at (shape_at (C.Code.coding code.now) (L.Layout.slot layout.now) (L.Layout.column layout.now) size) (members_in B.Bank bank.old) (frontier_of table.now.rows) s)) else after_write (shape_at (C.Code.coding code.now) (L.Layout.slot layout.now) (L.Layout.column layout.now) size) (members_in B.Bank bank.new) (frontier_of table.now.rows) s) }
+    ensures taken { lossy (shape_at (C.Code.coding code.now) (L.Layout.slot layout.now) (L.Layout.column layout.now) size) (members_in B.Bank bank.old) (frontier_of table.now.rows) s ≡ false → Spread (shape_at (C.Code.coding code.now) (L.Layout.slot layout.now) (L.Layout.column layout.now) size) (members_in B.Bank bank.old) (frontier_of table.now.rows) s c bytes.now (members_in B.Bank bank.new) }
+    ensures refused { lossy (shape_at (C.Code.coding code.now) (L.Layout.slot layout.now) (L.Layout.column layout.now) size) (members_in B.Bank bank.old) (frontier_of table.now.rows) s ≡ true → (members_in B.Bank bank.new) ≡ (members_in B.Bank bank.old) }
 {
     let survey = survey_of(layout, size.slots, table, bank, s);
     if survey.missing > 2 {
@@ -169,11 +169,11 @@ fn write_column<C: Code, L: Layout, B: Bank>(
 impl<C: Code, L: Layout, B: Bank> Volume<C, L, B> {
     // Gives a block of the volume these bytes, in its own column, P and Q. Answers how many columns of its stripe are missing then.
     pub fn write(&mut self, block: usize, bytes: &[u8]) -> Result<usize, Refusal>
-        ensures answered { outcome result ≡ write_outcome (shape (means C.Code.coding L.Layout.slot L.Layout.column B.Bank.state B.Bank.meaning) self.old) (members (means C.Code.coding L.Layout.slot L.Layout.column B.Bank.state B.Bank.meaning) self.old) (frontiers (means C.Code.coding L.Layout.slot L.Layout.column B.Bank.state B.Bank.meaning) self.old) block (length bytes.now) (members (means C.Code.coding L.Layout.slot L.Layout.column B.Bank.state B.Bank.meaning) self.new) }
-        ensures changes { WriteChanges (shape (means C.Code.coding L.Layout.slot L.Layout.column B.Bank.state B.Bank.meaning) self.old) (members (means C.Code.coding L.Layout.slot L.Layout.column B.Bank.state B.Bank.meaning) self.old) (frontiers (means C.Code.coding L.Layout.slot L.Layout.column B.Bank.state B.Bank.meaning) self.old) block bytes.now (members (means C.Code.coding L.Layout.slot L.Layout.column B.Bank.state B.Bank.meaning) self.new) }
+        ensures answered { outcome result ≡ write_outcome (shape C.Code L.Layout self.old) (members B.Bank self.old) (frontiers self.old) block (length bytes.now) (members B.Bank self.new) }
+        ensures changes { WriteChanges (shape C.Code L.Layout self.old) (members B.Bank self.old) (frontiers self.old) block bytes.now (members B.Bank self.new) }
         ensures kept { Kept self.old self.new }
-        ensures right { Roomy (shape (means C.Code.coding L.Layout.slot L.Layout.column B.Bank.state B.Bank.meaning) self.old) (members (means C.Code.coding L.Layout.slot L.Layout.column B.Bank.state B.Bank.meaning) self.old) → Writing (shape (means C.Code.coding L.Layout.slot L.Layout.column B.Bank.state B.Bank.meaning) self.old) (members (means C.Code.coding L.Layout.slot L.Layout.column B.Bank.state B.Bank.meaning) self.old) (frontiers (means C.Code.coding L.Layout.slot L.Layout.column B.Bank.state B.Bank.meaning) self.old) block bytes.now (members (means C.Code.coding L.Layout.slot L.Layout.column B.Bank.state B.Bank.meaning) self.new) }
-        ensures loss { Losing (shape (means C.Code.coding L.Layout.slot L.Layout.column B.Bank.state B.Bank.meaning) self.old) (members (means C.Code.coding L.Layout.slot L.Layout.column B.Bank.state B.Bank.meaning) self.old) (frontiers (means C.Code.coding L.Layout.slot L.Layout.column B.Bank.state B.Bank.meaning) self.old) }
+        ensures right { Roomy (shape C.Code L.Layout self.old) (members B.Bank self.old) → Writing (shape C.Code L.Layout self.old) (members B.Bank self.old) (frontiers self.old) block bytes.now (members B.Bank self.new) }
+        ensures loss { Losing (shape C.Code L.Layout self.old) (members B.Bank self.old) (frontiers self.old) }
     {
         let size = size_with(&self.code, self.size);
         if bytes.len() != BLOCK {
