@@ -2,7 +2,7 @@
 // missing of it, load its columns and recover them.
 #![tactic(auto)]
 
-ghost use Rattle.std.specs.Prelude.{◌≡◌, ◌+◌, ◌-◌, ◌*◌, ◌<◌, ◌≤◌, false, ◌∷◌, length, is_some, if◌then◌else◌};
+ghost use Rattle.std.specs.Prelude.{◌≡◌, ◌+◌, ◌-◌, ◌<◌, ◌≤◌, false, ◌∷◌, length, is_some, if◌then◌else◌};
 ghost use Rattle.code.specs.Blocks.{◌⊕◌, block_size, zeros};
 ghost use Rattle.parity.specs.Stripe.{missing, plain_part, mixed_part, if_present, plain_sum, mixed_sum};
 ghost use Rattle.parity.specs.Ways.{takes_plain, takes_mixed, or_else, recovered};
@@ -13,7 +13,6 @@ ghost use Rattle.volume.specs.Masks.{Room, with_status};
 ghost use Rattle.volume.specs.Volumes.{shape};
 
 use crate::members::status_of;
-use crate::size::Size;
 use crate::slots::SlotTable;
 use crate::survey::Survey;
 use bank::Bank;
@@ -25,6 +24,7 @@ use recovery::loss::Lost;
 use recovery::sums::add_column;
 use recovery::ways::solve;
 
+mod grid;
 mod members;
 mod size;
 mod slots;
@@ -259,12 +259,4 @@ fn rebuild<C: Code, L: Layout, B: Bank>(
     into.copy_from_slice(&mixed);
     gather(code, layout, n, table, bank, s, way, into, &mut mixed);
     let _ = solve(code, way, into, &mut mixed);
-}
-
-// How many blocks a volume of this size has.
-fn block_count(size: Size) -> usize
-    requires few { (size.slots ≤ 18) × (size.stripes ≤ 65535) }
-    ensures value { result ≡ size.stripes * (size.slots - 2) }
-{
-    size.stripes * size.slots.saturating_sub(2)
 }

@@ -10,10 +10,9 @@ ghost use Rattle.volume.specs.Slots.{frontier_of, columns_in, members_in, slots_
 ghost use Rattle.contents.specs.Theorems.{Reading, Losing};
 ghost use Rattle.volume.specs.Volumes.{shape, members, frontiers, Kept};
 
-use crate::size::size_with;
 use crate::slots::SlotTable;
 use crate::volume::Volume;
-use crate::{block_count, load, loss_of, rebuild, survey_of};
+use crate::{load, loss_of, rebuild, survey_of};
 use bank::Bank;
 use code::{BLOCK, Code};
 use contents::Refusal;
@@ -57,19 +56,19 @@ impl<C: Code, L: Layout, B: Bank> Volume<C, L, B> {
         ensures right { Reading (shape C.Code L.Layout self.old) (members B.Bank self.old) (frontiers self.old) }
         ensures loss { Losing (shape C.Code L.Layout self.old) (members B.Bank self.old) (frontiers self.old) }
     {
-        let size = size_with(&self.code, self.size);
         if buffer.len() != BLOCK {
             return Err(Refusal::Length);
         }
-        if block >= block_count(size) {
+        if block >= self.grid.blocks() {
             return Err(Refusal::NoSuch);
         }
-        let k = size.slots - 2;
+        let k = self.grid.size.slots - 2;
+        let grid = &self.grid;
         read_column(
-            &self.code,
-            &self.layout,
-            size.slots,
-            &self.table,
+            &grid.code,
+            &grid.layout,
+            grid.size.slots,
+            &grid.table,
             &mut self.bank,
             block / k,
             block % k,

@@ -15,7 +15,7 @@ ghost use Rattle.volume.specs.Slots.{frontier_of, members_in};
 ghost use Rattle.volume.specs.Sizes.{Fitting, shape_at};
 ghost use Rattle.volume.specs.Volumes.{shape, members, records, PartsKept, ordered};
 
-use crate::size::{Size, size_with};
+use crate::size::Size;
 use crate::slots::SlotTable;
 use crate::volume::Volume;
 use crate::{loss_of, rebuild, survey_of};
@@ -94,11 +94,13 @@ impl<C: Code, L: Layout, B: Bank> Volume<C, L, B> {
         ensures kept { PartsKept self.old self.new }
         ensures right { FitsOver (shape C.Code L.Layout self.old) (members B.Bank self.old) (records self.old) (members B.Bank self.new) (records self.new) × CountsKept (members B.Bank self.old) (members B.Bank self.new) }
     {
-        let size = size_with(&self.code, self.size);
+        let size = self.grid.size;
         if slot >= size.slots {
             return Err(Refusal::NoSuch);
         }
-        self.table.change(slot, SlotEvent::Replaced, size.stripes)?;
+        self.grid
+            .table
+            .change(slot, SlotEvent::Replaced, size.stripes)?;
         let _ = self.bank.fresh(slot);
         Ok(())
     }
@@ -111,11 +113,13 @@ impl<C: Code, L: Layout, B: Bank> Volume<C, L, B> {
         ensures kept { PartsKept self.old self.new }
         ensures right { FitsOver (shape C.Code L.Layout self.old) (members B.Bank self.old) (records self.old) (members B.Bank self.old) (records self.new) }
     {
-        let size = size_with(&self.code, self.size);
+        let size = self.grid.size;
         if slot >= size.slots {
             return Err(Refusal::NoSuch);
         }
-        self.table.change(slot, SlotEvent::Opened, size.stripes)?;
+        self.grid
+            .table
+            .change(slot, SlotEvent::Opened, size.stripes)?;
         Ok(Order { slot })
     }
 
@@ -128,23 +132,25 @@ impl<C: Code, L: Layout, B: Bank> Volume<C, L, B> {
         ensures right { Roomy (shape C.Code L.Layout self.old) (members B.Bank self.old) → FitsOver (shape C.Code L.Layout self.old) (members B.Bank self.old) (records self.old) (members B.Bank self.new) (records self.new) × CountsKept (members B.Bank self.old) (members B.Bank self.new) }
         ensures loss { open_here (shape C.Code L.Layout self.old) (records self.old) order.now.slot ≡ true → ((records self.old) order.now.slot).frontier < (shape C.Code L.Layout self.old).stripes → TellsLoss (shape C.Code L.Layout self.old) (members B.Bank self.old) (frontiers (records self.old)) ((records self.old) order.now.slot).frontier (step_outcome (shape C.Code L.Layout self.old) (members B.Bank self.old) (records self.old) order.now.slot) }
     {
-        let size = size_with(&self.code, self.size);
-        let Some(stripe) = self.table.open_frontier(size.slots, order.slot) else {
+        let size = self.grid.size;
+        let Some(stripe) = self.grid.table.open_frontier(size.slots, order.slot) else {
             return Err(Refusal::NotOpen);
         };
         if stripe >= size.stripes {
             return Err(Refusal::Whole);
         }
+        let grid = &self.grid;
         rebuild_column(
-            &self.code,
-            &self.layout,
+            &grid.code,
+            &grid.layout,
             size,
-            &self.table,
+            &grid.table,
             &mut self.bank,
             order.slot,
             stripe,
         )?;
-        self.table
+        self.grid
+            .table
             .change(order.slot, SlotEvent::Stepped, size.stripes)
     }
 
@@ -156,11 +162,13 @@ impl<C: Code, L: Layout, B: Bank> Volume<C, L, B> {
         ensures kept { PartsKept self.old self.new }
         ensures right { FitsOver (shape C.Code L.Layout self.old) (members B.Bank self.old) (records self.old) (members B.Bank self.old) (records self.new) }
     {
-        let size = size_with(&self.code, self.size);
+        let size = self.grid.size;
         let Order { slot } = order;
         if slot >= size.slots {
             return Err(Refusal::NotOpen);
         }
-        self.table.change(slot, SlotEvent::Closed, size.stripes)
+        self.grid
+            .table
+            .change(slot, SlotEvent::Closed, size.stripes)
     }
 }

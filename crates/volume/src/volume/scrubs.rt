@@ -13,7 +13,7 @@ ghost use Rattle.contents.specs.Theorems.{Scrubbing, Losing};
 ghost use Rattle.volume.specs.Volumes.{shape, members, frontiers, Kept};
 
 use crate::members::status_of;
-use crate::size::{Size, size_with};
+use crate::size::Size;
 use crate::slots::SlotTable;
 use crate::survey::{Survey, Tally};
 use crate::volume::Volume;
@@ -166,15 +166,15 @@ impl<C: Code, L: Layout, B: Bank> Volume<C, L, B> {
         ensures right { Roomy (shape C.Code L.Layout self.old) (members B.Bank self.old) → Scrubbing (shape C.Code L.Layout self.old) (members B.Bank self.old) (frontiers self.old) stripe (members B.Bank self.new) }
         ensures loss { Losing (shape C.Code L.Layout self.old) (members B.Bank self.old) (frontiers self.old) }
     {
-        let size = size_with(&self.code, self.size);
-        if stripe >= size.stripes {
+        if stripe >= self.grid.size.stripes {
             return Err(Refusal::NoSuch);
         }
+        let grid = &self.grid;
         scrub_stripe(
-            &self.code,
-            &self.layout,
-            size,
-            &self.table,
+            &grid.code,
+            &grid.layout,
+            grid.size,
+            &grid.table,
             &mut self.bank,
             stripe,
         )

@@ -14,11 +14,11 @@ ghost use Rattle.volume.specs.Stores.{Stores};
 ghost use Rattle.contents.specs.Theorems.{Writing, Losing};
 ghost use Rattle.volume.specs.Volumes.{shape, members, frontiers, Kept};
 
-use crate::size::{Size, size_with};
+use crate::size::Size;
 use crate::slots::SlotTable;
 use crate::survey::Survey;
 use crate::volume::Volume;
-use crate::{block_count, load, loss_of, rebuild, survey_of};
+use crate::{load, loss_of, rebuild, survey_of};
 use bank::Bank;
 use code::xor::xor_into;
 use code::{BLOCK, Code};
@@ -175,19 +175,19 @@ impl<C: Code, L: Layout, B: Bank> Volume<C, L, B> {
         ensures right { Roomy (shape C.Code L.Layout self.old) (members B.Bank self.old) → Writing (shape C.Code L.Layout self.old) (members B.Bank self.old) (frontiers self.old) block bytes.now (members B.Bank self.new) }
         ensures loss { Losing (shape C.Code L.Layout self.old) (members B.Bank self.old) (frontiers self.old) }
     {
-        let size = size_with(&self.code, self.size);
         if bytes.len() != BLOCK {
             return Err(Refusal::Length);
         }
-        if block >= block_count(size) {
+        if block >= self.grid.blocks() {
             return Err(Refusal::NoSuch);
         }
-        let k = size.slots - 2;
+        let k = self.grid.size.slots - 2;
+        let grid = &self.grid;
         write_column(
-            &self.code,
-            &self.layout,
-            size,
-            &self.table,
+            &grid.code,
+            &grid.layout,
+            grid.size,
+            &grid.table,
             &mut self.bank,
             block / k,
             block % k,
