@@ -15,9 +15,9 @@ use Rattle.contents.specs.Answers.{read_outcome, read_leaves, read_lost, write_t
 use Rattle.contents.specs.Changes.{Spread, WriteChanges, Scrubbed, ScrubChanges}
 use Rattle.volume.specs.Tallies.{counted}
 use Rattle.volume.specs.declared.size.Size.{Size}
-use Rattle.volume.specs.declared.volume.Volume.{Volume}
+use Rattle.volume.specs.declared.grid.Grid.{Grid}
 use Rattle.volume.specs.Sizes.{Fitting, shape_at}
-use Rattle.volume.specs.Volumes.{shape}
+use Rattle.volume.specs.Grids.{grid_shape}
 
 -- ---- the shape
 pub valid_at : (C : Coding) → Lawful block_size C → (slot column : ℕ → ℕ → ℕ → ℕ) → ((n s : ℕ) → Placing n (slot n s) (column n s)) → (z : Size) → Fitting C.limit z → Valid (shape_at C slot column z)
@@ -30,9 +30,9 @@ valid_at C L slot column pl z f = record {
   wide = f.wide;
 }
 
-pub volume_valid : {C L B : Type 0} (K : Code C) (J : Layout L) → ((c : C) → Lawful block_size (K.coding c)) → ((l : L) (n s : ℕ) → Placing n (J.slot l n s) (J.column l n s))
-    → (v : Volume C L B K) → Valid (shape K J v)
-volume_valid K J lawful placed v = valid_at (K.coding v.grid.code) (lawful v.grid.code) (J.slot v.grid.layout) (J.column v.grid.layout) (placed v.grid.layout) v.grid.size v.grid.fitting
+pub grid_valid : {C L : Type 0} (K : Code C) (J : Layout L) → ((c : C) → Lawful block_size (K.coding c)) → ((l : L) (n s : ℕ) → Placing n (J.slot l n s) (J.column l n s))
+    → (x : Grid C L K) → Valid (grid_shape K J x)
+grid_valid K J lawful placed x = valid_at (K.coding x.code) (lawful x.code) (J.slot x.layout) (J.column x.layout) (placed x.layout) x.size x.fitting
 
 -- ---- a column that is read
 pub read_here : (o : Option (List ℕ)) (b : List ℕ) (m : Bool) (e : Told) → o ≡ Some b → ◌≡◌ {A = Result Unit Told} (Ok tt) (cond (not (is_some o) && m) (Err e) (Ok tt))

@@ -6,7 +6,7 @@ use Rattle.member.specs.Faults.{Origin}
 use Rattle.member.specs.Meaning.{Meaning}
 use Rattle.bank.specs.Slots as bank
 use Rattle.bank.specs.declared.Bank.{Ghosts as Bank}
-use Rattle.contents.specs.Columns.{Members, columns}
+use Rattle.contents.specs.Columns.{Members}
 use Rattle.contents.specs.declared.SlotRecord.{SlotRecord}
 use Rattle.contents.specs.Records.{Records, idle_at, is_open}
 use Rattle.volume.specs.declared.survey.Survey.{Survey}
@@ -49,10 +49,6 @@ slots_in B b = B.meaning (B.state b)
 
 abbrev pub members_in : {B : Type 0} → Bank B → B → Members
 members_in B b = members_of (slots_in B b)
-
--- the columns of stripe s over n slots, by the bank, the slots' records and the layout's places
-abbrev pub columns_in : bank.Slots → List SlotRecord → (ℕ → ℕ → ℕ → ℕ) → ℕ → ℕ → ℕ → Option (List ℕ)
-columns_in ms rows slot n s = columns (members_of ms) (frontier_of rows) (slot n) s
 
 -- what a survey tells of a stripe of k data columns: the missing data columns as far as they matter, whether P is current, and how many
 -- columns are missing

@@ -6,8 +6,8 @@ use Rattle.layout.specs.declared.Layout.{Ghosts as Layout}
 use Rattle.contents.specs.Columns.{Members, Frontiers}
 use Rattle.contents.specs.Shapes.{Shape}
 use Rattle.volume.specs.declared.volume.Volume.{Volume}
-use Rattle.volume.specs.Sizes.{shape_at}
-use Rattle.volume.specs.Slots.{members_in, frontier_of, records_of}
+use Rattle.volume.specs.Grids.{grid_shape, grid_frontiers}
+use Rattle.volume.specs.Slots.{members_in, records_of}
 use Rattle.contents.specs.Records.{Records}
 use Rattle.contents.specs.Refusals.{Told, told}
 use Rattle.contents.specs.declared.Refusal.{Refusal}
@@ -15,13 +15,13 @@ use Rattle.volume.specs.declared.volume.rebuilds.Order.{Order}
 
 -- by the records K, L and B of its code, its layout and its bank
 abbrev pub shape : {C L B : Type 0} → (K : Code C) → Layout L → Volume C L B K → Shape
-shape K L v = shape_at (K.coding v.grid.code) (L.slot v.grid.layout) (L.column v.grid.layout) v.grid.size
+shape K L v = grid_shape K L v.grid
 
 abbrev pub members : {C L B : Type 0} {K : Code C} → Bank B → Volume C L B K → Members
 members B v = members_in B v.bank
 
 abbrev pub frontiers : {C L B : Type 0} {K : Code C} → Volume C L B K → Frontiers
-frontiers v = frontier_of v.grid.table.rows
+frontiers v = grid_frontiers v.grid
 
 abbrev pub records : {C L B : Type 0} {K : Code C} → Volume C L B K → Records
 records v = records_of v.grid.table.rows

@@ -1,49 +1,44 @@
 // Reads of a volume: one member where the block's column is current, else what the others recover.
-ghost use Rattle.std.specs.Prelude.{◌≡◌, ◌+◌, ◌-◌, ◌≤◌, not, ◌&&◌, length, is_some, is_ok, if◌then◌else◌, Ok, Err, nat_lt};
+ghost use Rattle.std.specs.Prelude.{◌≡◌, not, ◌&&◌, length, is_some, is_ok, if◌then◌else◌, Ok, Err, nat_lt};
 ghost use Rattle.code.specs.Blocks.{block_size};
-ghost use Rattle.parity.specs.Stripe.{missing};
-ghost use Rattle.parity.specs.Ways.{recovered};
-ghost use Rattle.contents.specs.Columns.{loss_of};
 ghost use Rattle.contents.specs.Refusals.{outcome, with_loss};
 ghost use Rattle.contents.specs.Answers.{read_outcome, read_leaves};
-ghost use Rattle.volume.specs.Slots.{frontier_of, columns_in, members_in, slots_in};
+ghost use Rattle.volume.specs.Grids.{columns_on, missing_on, loss_on, recovered_on};
+ghost use Rattle.volume.specs.Slots.{slots_in};
 ghost use Rattle.contents.specs.Theorems.{Reading, Losing};
 ghost use Rattle.volume.specs.Volumes.{shape, members, frontiers, Kept};
 
-use crate::slots::SlotTable;
+use crate::grid::Grid;
 use crate::volume::Volume;
-use crate::{load, loss_of, rebuild, survey_of};
 use bank::Bank;
 use code::{BLOCK, Code};
 use contents::Refusal;
 use layout::Layout;
 
-// Column `t` of stripe `s` into a buffer, from its member alone if it is current.
-fn read_column<C: Code, L: Layout, B: Bank>(
-    code: &C,
-    layout: &L,
-    n: usize,
-    table: &SlotTable,
-    bank: &mut B,
-    s: usize,
-    t: usize,
-    into: &mut [u8],
-) -> Result<(), Refusal>
-    requires shape { (2 ≤ n) × (n ≤ 18) × (n - 2 ≤ (C.Code.coding code.now).limit) }
-    requires sized { length into.old ≡ block_size }
-    ensures answered { outcome result ≡ (if not (is_some (columns_in (slots_in B.Bank bank.old) table.now.rows (L.Layout.slot layout.now) n s t)) && nat_lt 2 (missing (columns_in (slots_in B.Bank bank.old) table.now.rows (L.Layout.slot layout.now) n s) ((n - 2) + 2)) then Err (with_loss 4 (loss_of (members_in B.Bank bank.old) (frontier_of table.now.rows) n s)) else Ok tt) }
-    ensures after { into.new ≡ (if is_ok result then recovered (C.Code.coding code.now) (n - 2) (columns_in (slots_in B.Bank bank.old) table.now.rows (L.Layout.slot layout.now) n s) t else into.old) }
-    ensures same { slots_in B.Bank bank.new ≡ slots_in B.Bank bank.old }
-{
-    if load(layout, n, table, bank, s, t, into) {
-        return Ok(());
+impl<C: Code, L: Layout> Grid<C, L> {
+    // Column `t` of stripe `s` into a buffer, from its member alone if it is current.
+    fn read_column<B: Bank>(
+        &self,
+        bank: &mut B,
+        s: usize,
+        t: usize,
+        into: &mut [u8],
+    ) -> Result<(), Refusal>
+        requires sized { length into.old ≡ block_size }
+        ensures answered { outcome result ≡ (if not (is_some (columns_on L.Layout self.now (slots_in B.Bank bank.old) s t)) && nat_lt 2 (missing_on L.Layout self.now (slots_in B.Bank bank.old) s) then Err (with_loss 4 (loss_on self.now (slots_in B.Bank bank.old) s)) else Ok tt) }
+        ensures after { into.new ≡ (if is_ok result then recovered_on C.Code L.Layout self.now (slots_in B.Bank bank.old) s t else into.old) }
+        ensures same { slots_in B.Bank bank.new ≡ slots_in B.Bank bank.old }
+    {
+        if self.load(bank, s, t, into) {
+            return Ok(());
+        }
+        let survey = self.survey(bank, s);
+        if survey.missing > 2 {
+            return Err(Refusal::Lost(self.loss(bank, s)));
+        }
+        self.rebuild(bank, s, t, survey, into);
+        Ok(())
     }
-    let survey = survey_of(layout, n, table, bank, s);
-    if survey.missing > 2 {
-        return Err(Refusal::Lost(loss_of(n, table, bank, s)));
-    }
-    rebuild(code, layout, n, table, bank, s, t, survey, into);
-    Ok(())
 }
 
 impl<C: Code, L: Layout, B: Bank> Volume<C, L, B> {
@@ -63,16 +58,7 @@ impl<C: Code, L: Layout, B: Bank> Volume<C, L, B> {
             return Err(Refusal::NoSuch);
         }
         let k = self.grid.size.slots - 2;
-        let grid = &self.grid;
-        read_column(
-            &grid.code,
-            &grid.layout,
-            grid.size.slots,
-            &grid.table,
-            &mut self.bank,
-            block / k,
-            block % k,
-            buffer,
-        )
+        self.grid
+            .read_column(&mut self.bank, block / k, block % k, buffer)
     }
 }

@@ -7,18 +7,16 @@ ghost use Rattle.bank.specs.Slots.{bank_refusal};
 ghost use Rattle.contents.specs.declared.SlotEvent.TheVariants.{Opened, Closed};
 ghost use Rattle.contents.specs.Refusals.{outcome, with_loss, answering};
 ghost use Rattle.contents.specs.Records.{frontiers};
-ghost use Rattle.contents.specs.Shapes.{lossy, loss_at, recovered_at, Roomy};
+ghost use Rattle.contents.specs.Shapes.{lossy, Roomy};
 ghost use Rattle.contents.specs.Changes.{Moved};
 ghost use Rattle.contents.specs.Theorems.{CountsKept, TellsLoss};
 ghost use Rattle.contents.specs.Rebuilds.{event_records, replace_outcome, open_outcome, step_outcome, step_fault, close_outcome, rebuilt, fault_of, open_here, ReplaceChanges, StepChanges, FitsOver};
-ghost use Rattle.volume.specs.Slots.{frontier_of, members_in};
-ghost use Rattle.volume.specs.Sizes.{Fitting, shape_at};
+ghost use Rattle.volume.specs.Grids.{grid_shape, grid_frontiers, loss_on, recovered_on};
+ghost use Rattle.volume.specs.Slots.{members_in, slots_in};
 ghost use Rattle.volume.specs.Volumes.{shape, members, records, PartsKept, ordered};
 
-use crate::size::Size;
-use crate::slots::SlotTable;
+use crate::grid::Grid;
 use crate::volume::Volume;
-use crate::{loss_of, rebuild, survey_of};
 use bank::{Bank, BankFault};
 use code::{BLOCK, Code};
 use contents::{Refusal, SlotEvent};
@@ -47,42 +45,25 @@ fn lifted(answer: Result<(), BankFault>) -> Result<(), Refusal>
     Ok(())
 }
 
-// Writes what is recovered of stripe `s` to a slot that is behind it, unless three or more columns are missing.
-fn rebuild_column<C: Code, L: Layout, B: Bank>(
-    code: &C,
-    layout: &L,
-    size: Size,
-    table: &SlotTable,
-    bank: &mut B,
-    slot: usize,
-    s: usize,
-) -> Result<(), Refusal>
-    requires fitting { Fitting (C.Code.coding code.now).limit size }
-    requires within { (slot < size.slots) × (s < size.stripes) }
-    requires behind { frontier_of table.now.rows slot ≤ s }
-    ensures answered { Roomy (shape_at (C.Code.coding code.now) (L.Layout.slot layout.now) (L.Layout.column layout.now) size) (members_in B.Bank bank.old) → outcome result ≡ (if lossy (shape_at (C.Code.coding code.now) (L.Layout.slot layout.now) (L.Layout.column layout.now) size) (members_in B.Bank bank.old) (frontier_of table.now.rows) s then Err (with_loss 4 (loss_at (shape_at (C.Code.coding code.now) (L.Layout.slot layout.now) (L.Layout.column layout.now) size) (members_in B.Bank bank.old) (frontier_of table.now.rows) s)) else answering tt (rebuilt (write_refusal ((members_in B.Bank bank.old) slot) s block_size) s)) }
-    ensures fault { Roomy (shape_at (C.Code.coding code.now) (L.Layout.slot layout.now) (L.Layout.column layout.now) size) (members_in B.Bank bank.old) → fault_of result ≡ (if lossy (shape_at (C.Code.coding code.now) (L.Layout.slot layout.now) (L.Layout.column layout.now) size) (members_in B.Bank bank.old) (frontier_of table.now.rows) s then None else write_refusal ((members_in B.Bank bank.old) slot) s block_size) }
-    ensures taken { lossy (shape_at (C.Code.coding code.now) (L.Layout.slot layout.now) (L.Layout.column layout.now) size) (members_in B.Bank bank.old) (frontier_of table.now.rows) s ≡ false → Moved (λ a b. Written a s (recovered_at (shape_at (C.Code.coding code.now) (L.Layout.slot layout.now) (L.Layout.column layout.now) size) (members_in B.Bank bank.old) (frontier_of table.now.rows) s (L.Layout.column layout.now size.slots s slot)) b) slot (members_in B.Bank bank.old) (members_in B.Bank bank.new) }
-    ensures refused { lossy (shape_at (C.Code.coding code.now) (L.Layout.slot layout.now) (L.Layout.column layout.now) size) (members_in B.Bank bank.old) (frontier_of table.now.rows) s ≡ true → (members_in B.Bank bank.new) ≡ (members_in B.Bank bank.old) }
-{
-    let survey = survey_of(layout, size.slots, table, bank, s);
-    if survey.missing > 2 {
-        return Err(Refusal::Lost(loss_of(size.slots, table, bank, s)));
+impl<C: Code, L: Layout> Grid<C, L> {
+    // Writes what is recovered of stripe `s` to a slot that is behind it, unless three or more columns are missing.
+    fn rebuild_column<B: Bank>(&self, bank: &mut B, slot: usize, s: usize) -> Result<(), Refusal>
+        requires within { (slot < self.now.size.slots) × (s < self.now.size.stripes) }
+        requires behind { grid_frontiers self.now slot ≤ s }
+        ensures answered { Roomy (grid_shape C.Code L.Layout self.now) (members_in B.Bank bank.old) → outcome result ≡ (if lossy (grid_shape C.Code L.Layout self.now) (members_in B.Bank bank.old) (grid_frontiers self.now) s then Err (with_loss 4 (loss_on self.now (slots_in B.Bank bank.old) s)) else answering tt (rebuilt (write_refusal (members_in B.Bank bank.old slot) s block_size) s)) }
+        ensures fault { Roomy (grid_shape C.Code L.Layout self.now) (members_in B.Bank bank.old) → fault_of result ≡ (if lossy (grid_shape C.Code L.Layout self.now) (members_in B.Bank bank.old) (grid_frontiers self.now) s then None else write_refusal (members_in B.Bank bank.old slot) s block_size) }
+        ensures taken { lossy (grid_shape C.Code L.Layout self.now) (members_in B.Bank bank.old) (grid_frontiers self.now) s ≡ false → Moved (λ a b. Written a s (recovered_on C.Code L.Layout self.now (slots_in B.Bank bank.old) s (L.Layout.column self.now.layout self.now.size.slots s slot)) b) slot (members_in B.Bank bank.old) (members_in B.Bank bank.new) }
+        ensures refused { lossy (grid_shape C.Code L.Layout self.now) (members_in B.Bank bank.old) (grid_frontiers self.now) s ≡ true → members_in B.Bank bank.new ≡ members_in B.Bank bank.old }
+    {
+        let survey = self.survey(bank, s);
+        if survey.missing > 2 {
+            return Err(Refusal::Lost(self.loss(bank, s)));
+        }
+        let mut column = [0u8; BLOCK];
+        let t = self.layout.column_of(self.size.slots, s, slot);
+        self.rebuild(bank, s, t, survey, &mut column);
+        lifted(bank.write(slot, s, &column))
     }
-    let mut column = [0u8; BLOCK];
-    let t = layout.column_of(size.slots, s, slot);
-    rebuild(
-        code,
-        layout,
-        size.slots,
-        table,
-        bank,
-        s,
-        t,
-        survey,
-        &mut column,
-    );
-    lifted(bank.write(slot, s, &column))
 }
 
 impl<C: Code, L: Layout, B: Bank> Volume<C, L, B> {
@@ -109,7 +90,7 @@ impl<C: Code, L: Layout, B: Bank> Volume<C, L, B> {
     pub fn open(&mut self, slot: usize) -> Result<Order, Refusal>
         ensures answered { ordered result ≡ open_outcome (shape C.Code L.Layout self.old) (records self.old) slot }
         ensures bank { self.new.bank ≡ self.old.bank }
-        ensures records { (records self.new) ≡ event_records (shape C.Code L.Layout self.old) (records self.old) slot Opened }
+        ensures records { records self.new ≡ event_records (shape C.Code L.Layout self.old) (records self.old) slot Opened }
         ensures kept { PartsKept self.old self.new }
         ensures right { FitsOver (shape C.Code L.Layout self.old) (members B.Bank self.old) (records self.old) (members B.Bank self.old) (records self.new) }
     {
@@ -139,16 +120,8 @@ impl<C: Code, L: Layout, B: Bank> Volume<C, L, B> {
         if stripe >= size.stripes {
             return Err(Refusal::Whole);
         }
-        let grid = &self.grid;
-        rebuild_column(
-            &grid.code,
-            &grid.layout,
-            size,
-            &grid.table,
-            &mut self.bank,
-            order.slot,
-            stripe,
-        )?;
+        self.grid
+            .rebuild_column(&mut self.bank, order.slot, stripe)?;
         self.grid
             .table
             .change(order.slot, SlotEvent::Stepped, size.stripes)
@@ -158,7 +131,7 @@ impl<C: Code, L: Layout, B: Bank> Volume<C, L, B> {
     pub fn close(&mut self, order: Order) -> Result<usize, Refusal>
         ensures answered { outcome result ≡ close_outcome (shape C.Code L.Layout self.old) (records self.old) order.slot }
         ensures bank { self.new.bank ≡ self.old.bank }
-        ensures records { (records self.new) ≡ event_records (shape C.Code L.Layout self.old) (records self.old) order.slot Closed }
+        ensures records { records self.new ≡ event_records (shape C.Code L.Layout self.old) (records self.old) order.slot Closed }
         ensures kept { PartsKept self.old self.new }
         ensures right { FitsOver (shape C.Code L.Layout self.old) (members B.Bank self.old) (records self.old) (members B.Bank self.old) (records self.new) }
     {

@@ -8,7 +8,7 @@ use Rattle.contents.specs.Rebuilds.{FitsOver}
 use Rattle.contents.proofs.Rebuilding.{opens}
 use Rattle.volume.specs.Slots.{records_of}
 use Rattle.volume.specs.Volumes.{shape, members, records, ordered}
-use Rattle.volume.proofs.Answering.{volume_valid}
+use Rattle.volume.proofs.Answering.{grid_valid}
 use Rattle.volume.proofs.Rebuilding.{EventDone, event_done, answering_ok, answering_err}
 use Rattle.volume.proofs.volume.Volume.open.Goals as goal
 
@@ -19,7 +19,7 @@ returns-in_err-change g c =
     let R = records v in
     let z = v.grid.size in
     let V = shape g.C.Code g.L.Layout v in
-    let valid = volume_valid g.C.Code g.L.Layout g.met.C.Code.lawful g.met.L.Layout.lawful v in
+    let valid = grid_valid g.C.Code g.L.Layout g.met.C.Code.lawful g.met.L.Layout.lawful v.grid in
     let i = c.args.slot in
     let Q = records_of c.change.new.self.rows in
     let p = err_from_is_err_and c.from_residual.result c.from_residual.ensures.1 in
@@ -39,7 +39,7 @@ returns g c =
     let R = records v in
     let z = v.grid.size in
     let V = shape g.C.Code g.L.Layout v in
-    let valid = volume_valid g.C.Code g.L.Layout g.met.C.Code.lawful g.met.L.Layout.lawful v in
+    let valid = grid_valid g.C.Code g.L.Layout g.met.C.Code.lawful g.met.L.Layout.lawful v.grid in
     let i = c.args.slot in
     let Q = records_of c.change.new.self.rows in
     let d = event_done V R i Opened (plain 2) Q (outcome c.change.result) (omega arith) c.change.ensures.records c.change.ensures.answered in

@@ -3,7 +3,7 @@ use Rattle.contents.specs.Refusals.{plain, outcome}
 use Rattle.contents.proofs.Reading.{reads}
 use Rattle.contents.proofs.Losing.{losses}
 use Rattle.volume.specs.Volumes.{shape, members, frontiers}
-use Rattle.volume.proofs.Answering.{volume_valid, ReadDone, read_short, read_beyond, read_within, factor}
+use Rattle.volume.proofs.Answering.{grid_valid, ReadDone, read_short, read_beyond, read_within, factor}
 use Rattle.volume.proofs.volume.Volume.read.Goals as goal
 
 pub returns-then-buffer-ne-BLOCK : goal.returns-then-buffer-ne-BLOCK
@@ -13,7 +13,7 @@ returns-then-buffer-ne-BLOCK g c =
     let M = members g.B.Bank v in
     let F = frontiers v in
     let z = v.grid.size in
-    let valid = volume_valid g.C.Code g.L.Layout g.met.C.Code.lawful g.met.L.Layout.lawful v in
+    let valid = grid_valid g.C.Code g.L.Layout g.met.C.Code.lawful g.met.L.Layout.lawful v.grid in
     let old = c.args.buffer.now in
     let a = c.args.block in
     let d = read_short V M F a old c.if-buffer-ne-BLOCK.true in
@@ -26,7 +26,7 @@ returns-then-block-blocks g c =
     let M = members g.B.Bank v in
     let F = frontiers v in
     let z = v.grid.size in
-    let valid = volume_valid g.C.Code g.L.Layout g.met.C.Code.lawful g.met.L.Layout.lawful v in
+    let valid = grid_valid g.C.Code g.L.Layout g.met.C.Code.lawful g.met.L.Layout.lawful v.grid in
     let old = c.args.buffer.now in
     let a = c.args.block in
     let l : z.stripes * (z.slots - 2) ≤ a = subst (λ (x : ℕ). x ≤ a) c.blocks-2.ensures.value c.if-block-blocks.true in
@@ -42,12 +42,6 @@ nonzero_div-block g c = factor c.args.block c.args.self.now.grid.size.stripes _ 
 pub nonzero_rem-block : goal.nonzero_rem-block
 nonzero_rem-block g c = factor c.args.block c.args.self.now.grid.size.stripes _ (subst (λ (x : ℕ). c.args.block < x) c.blocks-2.ensures.value c.if-block-blocks.false)
 
-pub read_column-requires : goal.read_column-requires
-read_column-requires g c =
-    let z = c.args.self.now.grid.size in
-    let k0 = factor c.args.block z.stripes (z.slots - 2) (subst (λ (x : ℕ). c.args.block < x) c.blocks-2.ensures.value c.if-block-blocks.false) in
-    record { shape = (omega arith, c.args.self.now.grid.fitting.most, c.args.self.now.grid.fitting.reach); sized = c.if-buffer-ne-BLOCK.false }
-
 pub returns : goal.returns
 returns g c =
     let v = c.args.self.now in
@@ -55,7 +49,7 @@ returns g c =
     let M = members g.B.Bank v in
     let F = frontiers v in
     let z = v.grid.size in
-    let valid = volume_valid g.C.Code g.L.Layout g.met.C.Code.lawful g.met.L.Layout.lawful v in
+    let valid = grid_valid g.C.Code g.L.Layout g.met.C.Code.lawful g.met.L.Layout.lawful v.grid in
     let old = c.args.buffer.now in
     let a = c.args.block in
     let l : a < z.stripes * (z.slots - 2) = subst (λ (x : ℕ). a < x) c.blocks-2.ensures.value c.if-block-blocks.false in

@@ -13,7 +13,7 @@ use Rattle.code.specs.Blocks.{block_size}
 use Rattle.contents.proofs.Rebuilding.{rebuilds, rebuild_losses}
 use Rattle.volume.specs.Slots.{members_in, records_of}
 use Rattle.volume.specs.Volumes.{shape, members, records}
-use Rattle.volume.proofs.Answering.{volume_valid}
+use Rattle.volume.proofs.Answering.{grid_valid}
 use Rattle.volume.proofs.Rebuilding.{StepDone, step_failed, step_made, fault_is, raised_faultless, open_some, column_answer}
 use Rattle.volume.proofs.volume.Volume.step.Goals as goal
 
@@ -24,7 +24,7 @@ returns-in_err-rebuild_column g c =
     let R = records v in
     let z = v.grid.size in
     let V = shape g.C.Code g.L.Layout v in
-    let valid = volume_valid g.C.Code g.L.Layout g.met.C.Code.lawful g.met.L.Layout.lawful v in
+    let valid = grid_valid g.C.Code g.L.Layout g.met.C.Code.lawful g.met.L.Layout.lawful v.grid in
     let i = c.args.order.now.slot in
     let N = members_in g.B.Bank c.rebuild_column.new.bank in
     let F = frontiers R in
@@ -57,7 +57,7 @@ returns g c =
     let R = records v in
     let z = v.grid.size in
     let V = shape g.C.Code g.L.Layout v in
-    let valid = volume_valid g.C.Code g.L.Layout g.met.C.Code.lawful g.met.L.Layout.lawful v in
+    let valid = grid_valid g.C.Code g.L.Layout g.met.C.Code.lawful g.met.L.Layout.lawful v.grid in
     let i = c.args.order.now.slot in
     let N = members_in g.B.Bank c.rebuild_column.new.bank in
     let F = frontiers R in

@@ -5,7 +5,7 @@ use Rattle.contents.proofs.Fitting.{stripe_below, column_below}
 use Rattle.contents.proofs.Losing.{losses}
 use Rattle.volume.specs.Slots.{members_in}
 use Rattle.volume.specs.Volumes.{shape, members, frontiers}
-use Rattle.volume.proofs.Answering.{volume_valid, WriteDone, write_short, write_beyond, write_within, factor}
+use Rattle.volume.proofs.Answering.{grid_valid, WriteDone, write_short, write_beyond, write_within, factor}
 use Rattle.volume.proofs.volume.Volume.write.Goals as goal
 
 pub returns-then-bytes-ne-BLOCK : goal.returns-then-bytes-ne-BLOCK
@@ -15,7 +15,7 @@ returns-then-bytes-ne-BLOCK g c =
     let M = members g.B.Bank v in
     let F = frontiers v in
     let z = v.grid.size in
-    let valid = volume_valid g.C.Code g.L.Layout g.met.C.Code.lawful g.met.L.Layout.lawful v in
+    let valid = grid_valid g.C.Code g.L.Layout g.met.C.Code.lawful g.met.L.Layout.lawful v.grid in
     let old = c.args.bytes.now in
     let a = c.args.block in
     let d = write_short V M F a old c.if-bytes-ne-BLOCK.true in
@@ -28,7 +28,7 @@ returns-then-block-blocks g c =
     let M = members g.B.Bank v in
     let F = frontiers v in
     let z = v.grid.size in
-    let valid = volume_valid g.C.Code g.L.Layout g.met.C.Code.lawful g.met.L.Layout.lawful v in
+    let valid = grid_valid g.C.Code g.L.Layout g.met.C.Code.lawful g.met.L.Layout.lawful v.grid in
     let old = c.args.bytes.now in
     let a = c.args.block in
     let l : z.stripes * (z.slots - 2) ≤ a = subst (λ (x : ℕ). x ≤ a) c.blocks-2.ensures.value c.if-block-blocks.true in
@@ -48,11 +48,10 @@ pub write_column-requires : goal.write_column-requires
 write_column-requires g c =
     let v = c.args.self.now in
     let z = v.grid.size in
-    let valid = volume_valid g.C.Code g.L.Layout g.met.C.Code.lawful g.met.L.Layout.lawful v in
+    let valid = grid_valid g.C.Code g.L.Layout g.met.C.Code.lawful g.met.L.Layout.lawful v.grid in
     let V = shape g.C.Code g.L.Layout v in
     let l : c.args.block < z.stripes * (z.slots - 2) = subst (λ (x : ℕ). c.args.block < x) c.blocks-2.ensures.value c.if-block-blocks.false in
     record {
-      fitting = c.args.self.now.grid.fitting;
       within = (stripe_below V valid c.args.block l, column_below V valid c.args.block l);
       sized = c.if-bytes-ne-BLOCK.false;
     }
@@ -64,7 +63,7 @@ returns g c =
     let M = members g.B.Bank v in
     let F = frontiers v in
     let z = v.grid.size in
-    let valid = volume_valid g.C.Code g.L.Layout g.met.C.Code.lawful g.met.L.Layout.lawful v in
+    let valid = grid_valid g.C.Code g.L.Layout g.met.C.Code.lawful g.met.L.Layout.lawful v.grid in
     let old = c.args.bytes.now in
     let a = c.args.block in
     let N = members_in g.B.Bank c.write_column.new.bank in
