@@ -16,7 +16,7 @@ fn tells_gone(answer: Result<(), BankFault>) -> bool
 {
     match answer {
         Ok(()) => false,
-        Err(refusal) => refusal.fault.cause.number() == Cause::Gone.number(),
+        Err(refusal) => refusal.fault.cause == Cause::Gone,
     }
 }
 

@@ -18,21 +18,16 @@ use member::MOST_BLOCKS;
 pub fn count_at<B: Bank>(bank: &B, slot: usize) -> usize
     ensures value { result ≡ (members_in B.Bank bank.now slot).count }
 {
-    match bank.count(slot) {
-        Ok(count) => count,
-        Err(_) => 0,
-    }
+    bank.count(slot).unwrap_or(0)
 }
 
 // The smallest count of the first `n` members.
 pub fn smallest_count<B: Bank>(bank: &B, n: usize) -> usize
     ensures value { result ≡ smallest (members_in B.Bank bank.now) n }
 {
-    let mut least = MOST_BLOCKS;
-    for slot in 0..n {
-        least = least.min(count_at(bank, slot));
-    }
-    least
+    (0..n)
+        .map(|slot| count_at(bank, slot))
+        .fold(MOST_BLOCKS, |least, count| least.min(count))
 }
 
 // Ticks the members in the first `n` slots.
@@ -66,25 +61,18 @@ pub fn zero_stripes<B: Bank>(bank: &mut B, n: usize, stripes: usize)
     }
 }
 
-// Whether a slot's member is gone or does not have all stripes, of which there is at least one: 1 or 0.
-fn weak<B: Bank>(table: &SlotTable, bank: &B, stripes: usize, slot: usize) -> usize
-    ensures value { result ≡ (if (members_in B.Bank bank.now slot).gone || nat_lt (frontier_of table.now.rows slot) stripes then 1 else 0) }
-    ensures low { result ≤ 1 }
+// Whether a slot's member is gone or does not have all stripes, of which there is at least one.
+fn is_weak<B: Bank>(table: &SlotTable, bank: &B, stripes: usize, slot: usize) -> bool
+    ensures value { result ≡ (members_in B.Bank bank.now slot).gone || nat_lt (frontier_of table.now.rows slot) stripes }
 {
-    if is_gone(bank, slot) || !table.has_all(slot, stripes) {
-        1
-    } else {
-        0
-    }
+    is_gone(bank, slot) || !table.has_all(slot, stripes)
 }
 
 // How many of the first `n` slots are gone or do not have all stripes.
 pub fn weak_slots<B: Bank>(table: &SlotTable, bank: &B, n: usize, stripes: usize) -> usize
     ensures value { result ≡ count (λ i. (members_in B.Bank bank.now i).gone || nat_lt (frontier_of table.now.rows i) stripes) n }
 {
-    let mut weak_ones = 0;
-    for slot in 0..n {
-        weak_ones += weak(table, bank, stripes, slot);
-    }
-    weak_ones
+    (0..n)
+        .filter(|&slot| is_weak(table, bank, stripes, slot))
+        .count()
 }

@@ -1,23 +1,19 @@
 // Replacement of a slot's member, and the rebuild of what it should hold, stripe by stripe, while the volume is in use.
 ghost use Rattle.std.specs.Prelude.{◌≡◌, ◌<◌, ◌≤◌, true, false, is_ok, if◌then◌else◌, None, Err};
-ghost use Rattle.code.specs.Blocks.{block_size};
-ghost use Rattle.member.specs.Meaning.{write_refusal};
-ghost use Rattle.member.specs.Changes.{Written};
-ghost use Rattle.bank.specs.Slots.{bank_refusal};
 ghost use Rattle.contents.specs.declared.SlotEvent.TheVariants.{Opened, Closed};
-ghost use Rattle.contents.specs.Refusals.{outcome, with_loss, answering};
+ghost use Rattle.contents.specs.Refusals.{outcome};
 ghost use Rattle.contents.specs.Records.{frontiers};
-ghost use Rattle.contents.specs.Shapes.{lossy, Roomy};
-ghost use Rattle.contents.specs.Changes.{Moved};
+ghost use Rattle.contents.specs.Shapes.{Roomy};
 ghost use Rattle.contents.specs.Theorems.{CountsKept, TellsLoss};
-ghost use Rattle.contents.specs.Rebuilds.{event_records, replace_outcome, open_outcome, step_outcome, step_fault, close_outcome, rebuilt, fault_of, open_here, ReplaceChanges, StepChanges, FitsOver};
-ghost use Rattle.volume.specs.Grids.{grid_shape, grid_frontiers, loss_on, recovered_on};
-ghost use Rattle.volume.specs.Slots.{members_in, slots_in};
+ghost use Rattle.contents.specs.Rebuilds.{event_records, replace_outcome, open_outcome, step_outcome, step_fault, close_outcome, fault_of, open_here, ReplaceChanges, StepChanges, FitsOver};
+ghost use Rattle.volume.specs.Columns.{ColumnRebuilt};
+ghost use Rattle.volume.specs.Grids.{grid_shape, grid_frontiers};
+ghost use Rattle.volume.specs.Slots.{members_in};
 ghost use Rattle.volume.specs.Volumes.{shape, members, records, PartsKept, ordered};
 
 use crate::grid::Grid;
 use crate::volume::Volume;
-use bank::{Bank, BankFault};
+use bank::Bank;
 use code::{BLOCK, Code};
 use contents::{Refusal, SlotEvent};
 use layout::Layout;
@@ -36,24 +32,12 @@ impl Order {
     }
 }
 
-// A bank's answer as the answer of its volume: the fault goes up whole.
-fn lifted(answer: Result<(), BankFault>) -> Result<(), Refusal>
-    ensures answered { outcome result ≡ answering tt (rebuilt (bank_refusal answer) 0) }
-    ensures fault { fault_of result ≡ bank_refusal answer }
-{
-    answer?;
-    Ok(())
-}
-
 impl<C: Code, L: Layout> Grid<C, L> {
     // Writes what is recovered of stripe `s` to a slot that is behind it, unless three or more columns are missing.
     fn rebuild_column<B: Bank>(&self, bank: &mut B, slot: usize, s: usize) -> Result<(), Refusal>
         requires within { (slot < self.now.size.slots) × (s < self.now.size.stripes) }
         requires behind { grid_frontiers self.now slot ≤ s }
-        ensures answered { Roomy (grid_shape C.Code L.Layout self.now) (members_in B.Bank bank.old) → outcome result ≡ (if lossy (grid_shape C.Code L.Layout self.now) (members_in B.Bank bank.old) (grid_frontiers self.now) s then Err (with_loss 4 (loss_on self.now (slots_in B.Bank bank.old) s)) else answering tt (rebuilt (write_refusal (members_in B.Bank bank.old slot) s block_size) s)) }
-        ensures fault { Roomy (grid_shape C.Code L.Layout self.now) (members_in B.Bank bank.old) → fault_of result ≡ (if lossy (grid_shape C.Code L.Layout self.now) (members_in B.Bank bank.old) (grid_frontiers self.now) s then None else write_refusal (members_in B.Bank bank.old slot) s block_size) }
-        ensures taken { lossy (grid_shape C.Code L.Layout self.now) (members_in B.Bank bank.old) (grid_frontiers self.now) s ≡ false → Moved (λ a b. Written a s (recovered_on C.Code L.Layout self.now (slots_in B.Bank bank.old) s (L.Layout.column self.now.layout self.now.size.slots s slot)) b) slot (members_in B.Bank bank.old) (members_in B.Bank bank.new) }
-        ensures refused { lossy (grid_shape C.Code L.Layout self.now) (members_in B.Bank bank.old) (grid_frontiers self.now) s ≡ true → members_in B.Bank bank.new ≡ members_in B.Bank bank.old }
+        ensures rebuilt { ColumnRebuilt (grid_shape C.Code L.Layout self.now) (members_in B.Bank bank.old) (grid_frontiers self.now) s slot (members_in B.Bank bank.new) result }
     {
         let survey = self.survey(bank, s);
         if survey.missing > 2 {
@@ -62,7 +46,7 @@ impl<C: Code, L: Layout> Grid<C, L> {
         let mut column = [0u8; BLOCK];
         let t = self.layout.column_of(self.size.slots, s, slot);
         self.rebuild(bank, s, t, survey, &mut column);
-        lifted(bank.write(slot, s, &column))
+        Ok(bank.write(slot, s, &column)?)
     }
 }
 

@@ -31,15 +31,15 @@ returns-in_err-rebuild_column g c =
     let here = open_some (ltb i z.slots && is_open (R i).state) (R i).frontier c.in-Some.stripe c.in-Some.ensures.value in
     let at = here.1 in
     let left : (R i).frontier < z.stripes = omega (arith, c.if-stripe-size.false) in
-    let moved = subst (λ (x : ℕ). lossy V M F x ≡ false → Moved (λ m n. Written m x (recovered_at V M F x (V.back x i)) n) i M N) (sym at) c.rebuild_column.ensures.taken in
-    let same = subst (λ (x : ℕ). lossy V M F x ≡ true → N ≡ M) (sym at) c.rebuild_column.ensures.refused in
+    let moved = subst (λ (x : ℕ). lossy V M F x ≡ false → Moved (λ m n. Written m x (recovered_at V M F x (V.back x i)) n) i M N) (sym at) c.rebuild_column.ensures.rebuilt.taken in
+    let same = subst (λ (x : ℕ). lossy V M F x ≡ true → N ≡ M) (sym at) c.rebuild_column.ensures.rebuilt.refused in
     let p = err_from_is_err_and c.from_residual.result c.from_residual.ensures.1 in
     let t = told c.in_err-rebuild_column.field-0.0 in
     let done : Roomy V M → StepDone V M R i N R (Err t) = λ room.
     (step_failed V M R i here.0 left N moved same t
-    (sym (ap outcome c.in_err-rebuild_column.was) ∙ subst (λ (x : ℕ). outcome c.rebuild_column.result ≡ cond (lossy V M F x) (Err (with_loss 4 (loss_at V M F x))) (column_answer (write_refusal (M i) x block_size) x)) (sym at) (c.rebuild_column.ensures.answered (room)))) in
+    (sym (ap outcome c.in_err-rebuild_column.was) ∙ subst (λ (x : ℕ). outcome c.rebuild_column.result ≡ cond (lossy V M F x) (Err (with_loss 4 (loss_at V M F x))) (column_answer (write_refusal (M i) x block_size) x)) (sym at) (c.rebuild_column.ensures.rebuilt.answered (room)))) in
     let carried : Roomy V M → fault_of c.rebuild_column.result ≡ step_fault V M R i = λ room.
-    (subst (λ (x : ℕ). fault_of c.rebuild_column.result ≡ cond (lossy V M F x) None (write_refusal (M i) x block_size)) (sym at) (c.rebuild_column.ensures.fault (room))
+    (subst (λ (x : ℕ). fault_of c.rebuild_column.result ≡ cond (lossy V M F x) None (write_refusal (M i) x block_size)) (sym at) (c.rebuild_column.ensures.rebuilt.fault (room))
     ∙ fault_is V M R i here.0 left N moved same) in
     record {
       fault = λ room. ap (fault_of {U = ℕ}) p.1 ∙ ap (λ (x : Refusal). fault_of {U = Unit} (Err x)) p.2 ∙ sym (ap (fault_of {U = Unit}) c.in_err-rebuild_column.was) ∙ carried room;
@@ -64,15 +64,15 @@ returns g c =
     let here = open_some (ltb i z.slots && is_open (R i).state) (R i).frontier c.in-Some.stripe c.in-Some.ensures.value in
     let at = here.1 in
     let left : (R i).frontier < z.stripes = omega (arith, c.if-stripe-size.false) in
-    let moved = subst (λ (x : ℕ). lossy V M F x ≡ false → Moved (λ m n. Written m x (recovered_at V M F x (V.back x i)) n) i M N) (sym at) c.rebuild_column.ensures.taken in
-    let same = subst (λ (x : ℕ). lossy V M F x ≡ true → N ≡ M) (sym at) c.rebuild_column.ensures.refused in
+    let moved = subst (λ (x : ℕ). lossy V M F x ≡ false → Moved (λ m n. Written m x (recovered_at V M F x (V.back x i)) n) i M N) (sym at) c.rebuild_column.ensures.rebuilt.taken in
+    let same = subst (λ (x : ℕ). lossy V M F x ≡ true → N ≡ M) (sym at) c.rebuild_column.ensures.rebuilt.refused in
     let Q = records_of c.change.new.self.rows in
     let done : Roomy V M → StepDone V M R i N Q (outcome c.change.result) = λ room.
     (step_made V M R i here.0 left N moved same
-    (sym (ap outcome c.in_ok-rebuild_column.was) ∙ subst (λ (x : ℕ). outcome c.rebuild_column.result ≡ cond (lossy V M F x) (Err (with_loss 4 (loss_at V M F x))) (column_answer (write_refusal (M i) x block_size) x)) (sym at) (c.rebuild_column.ensures.answered (room)))
+    (sym (ap outcome c.in_ok-rebuild_column.was) ∙ subst (λ (x : ℕ). outcome c.rebuild_column.result ≡ cond (lossy V M F x) (Err (with_loss 4 (loss_at V M F x))) (column_answer (write_refusal (M i) x block_size) x)) (sym at) (c.rebuild_column.ensures.rebuilt.answered (room)))
     Q (outcome c.change.result) c.change.ensures.records c.change.ensures.answered) in
     let carried : Roomy V M → fault_of c.rebuild_column.result ≡ step_fault V M R i = λ room.
-    (subst (λ (x : ℕ). fault_of c.rebuild_column.result ≡ cond (lossy V M F x) None (write_refusal (M i) x block_size)) (sym at) (c.rebuild_column.ensures.fault (room))
+    (subst (λ (x : ℕ). fault_of c.rebuild_column.result ≡ cond (lossy V M F x) None (write_refusal (M i) x block_size)) (sym at) (c.rebuild_column.ensures.rebuilt.fault (room))
     ∙ fault_is V M R i here.0 left N moved same) in
     record {
       fault = λ room. raised_faultless V M R i here.0 left N moved same c.change.result c.change.ensures.answered ∙ sym (ap (fault_of {U = Unit}) c.in_ok-rebuild_column.was) ∙ carried room;
