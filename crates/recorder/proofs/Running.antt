@@ -1,22 +1,42 @@
 -- Operations and runs of operations, as parts of a volume's history.
-use Rattle.std.proofs.Common.{◌≡◌, ℕ, ◌+◌, ◌<◌, ◌≤◌, List, [], ◌++◌, IfOk, Some, None, Ok, Err, Option, Result, sym, subst}
-use Rattle.contents.specs.Refusals.{Told}
+use Rattle.std.proofs.Common.{◌≡◌, ℕ, ◌+◌, ◌<◌, ◌≤◌, List, [], ◌++◌, IfOk, IsErr, IsErrAnd, Some, None, Ok, Err, Option, Result, sym, refl, ap, subst}
+use Rattle.std.proofs.lemmas.Bool.{false≢true}
+use Rattle.contents.specs.Refusals.{Told, told}
+use Rattle.contents.specs.declared.Refusal.{Refusal}
 use Rattle.code.specs.Codes.{Coding}
 use Rattle.contents.specs.Columns.{Members}
 use Rattle.contents.specs.Changes.{FormatChanges}
 use Rattle.contents.specs.Records.{idle_at}
 use Rattle.contents.specs.Shapes.{Shape}
-use Rattle.history.specs.Calls.{State, Answer}
+use Rattle.history.specs.Calls.{State, Call, Answer}
 use Rattle.history.specs.Calls.Call.{open_slot, step, close}
 use Rattle.history.specs.Calls.Answer.{number, order, refused}
 use Rattle.history.specs.History.{Event, Kept}
 use Rattle.runs.specs.Told.{event, GoesOn}
 use Rattle.runs.proofs.Logged.{goes_nowhere, goes_further}
+use Rattle.script.specs.declared.parts.Act.{Act}
 use Rattle.script.specs.declared.parts.Act.TheVariants.{Rebuild}
-use Rattle.recorder.specs.Acts.{SteppedOn, none, more, spent, ended, halted, kept_shut, rebuilt, rebuild_line, ActsOn, StepsOn}
-use Rattle.recorder.specs.Lines.{refused_line}
+use Rattle.recorder.specs.declared.acts.ActRefusal.{ActRefusal}
+use Rattle.recorder.specs.declared.acts.ActRefusal.TheVariants.{Refused}
+use Rattle.recorder.specs.Acts.{SteppedOn, none, more, spent, ended, halted, kept_shut, rebuilt, rebuild_line, refusal_line, told_line, OneCall, Acted, ActsOn, StepsOn}
+use Rattle.recorder.specs.Lines.{line_of, refused_line}
 use Rattle.recorder.specs.Slots.{recorder_shape, blank_members}
 use Rattle.recorder.specs.Runs.{Ran, start, next, RanOn, ActStep, AllLines, Replayed}
+
+-- ---- an operation that is one call
+pub one_call : (V : Shape) (σ τ : State) (a : Act) (q : Call) (r : Answer) (line : ℕ × ℕ) → ((es : List Event) (l : ℕ × ℕ) → OneCall q es l → Acted V.stripes a es l)
+    → line ≡ line_of r → GoesOn V σ (event q r) τ → ActsOn V σ a line τ
+one_call V σ τ a q r line acted e h = record { log = event q r; acted = acted (event q r) line (record { answer = r; made = refl; line = e }); goes = h }
+
+-- the same of what an operation asks for
+pub one_call_of : (V : Shape) (σ τ : State) (a b : Act) (q : Call) (r : Answer) (line : ℕ × ℕ) → a ≡ b → ((es : List Event) (l : ℕ × ℕ) → OneCall q es l → Acted V.stripes a es l)
+    → line ≡ line_of r → GoesOn V σ (event q r) τ → ActsOn V σ b line τ
+one_call_of V σ τ a b q r line e acted f h = subst (λ (x : Act). ActsOn V σ x line τ) e (one_call V σ τ a q r line acted f h)
+
+-- a refusal that goes up
+pub refused_line_of : (r : Result ℕ ActRefusal) (e : Refusal) → IsErr r × IsErrAnd r (λ x. x ≡ Refused e) → told_line r ≡ refused_line (told e)
+refused_line_of (Ok n) e h = absurd (false≢true h.0)
+refused_line_of (Err x) e h = ap refusal_line h.1
 
 -- ---- the steps of a rebuild
 

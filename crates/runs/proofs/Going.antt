@@ -1,6 +1,6 @@
 -- A call that was made is one event more of the volume's history.
-use Rattle.std.proofs.Common.{◌≡◌, ℕ, Bool, true, false, cond, List, [], ◌∷◌, length, is_ok, IfOk, Ok, Err, Result, sym, refl, ap, ◌∙◌, subst, arith}
-use Rattle.std.proofs.lemmas.Bool.{false≢true}
+use Rattle.std.proofs.Common.{◌≡◌, ◌≢◌, ℕ, Bool, true, false, cond, List, [], ◌∷◌, length, is_ok, IfOk, Ok, Err, Result, sym, refl, ap, ◌∙◌, subst, arith}
+use Rattle.std.proofs.lemmas.Bool.{cond-false, ne_eqb, false≢true}
 use Rattle.code.specs.Blocks.{Bytes}
 use Rattle.contents.specs.declared.Refusal.{Refusal}
 use Rattle.contents.specs.Refusals.{Told, answering}
@@ -66,3 +66,10 @@ pub order_slot : (r : Result Order Refusal) (x : Result ℕ Told) (i : ℕ) → 
 order_slot (Ok o) (Ok n) i e = let d : o.slot ≡ i = cc in d
 order_slot (Ok o) (Err t) i e = absurd (let z : ◌≡◌ {A = ℕ} 0 1 = cc in omega arith)
 order_slot (Err f) x i e = tt
+
+-- a read into a buffer that is not a block's is refused, whichever its length
+pub unsized : (V : Shape) (σ τ : State) (a n : ℕ) (r : Answer) → n ≢ 512 → Makes V σ (read a 0) r τ → Makes V σ (read a n) r τ
+unsized V σ τ a n r h m = record {
+  answer = m.answer ∙ sym (ap (answered _) (cond-false _ _ _ (ne_eqb n 512 h)));
+  changes = m.changes;
+}

@@ -4,12 +4,12 @@ use Rattle.history.specs.Calls.{Makes}
 use Rattle.history.specs.Calls.Call.{tick}
 use Rattle.runs.specs.Told.{state}
 use Rattle.runs.proofs.Going.{shape_same, records_same, no_bytes, goes}
-use Rattle.runs.proofs.single.tick.Goals as goal
+use Rattle.runs.proofs.single.VolumeAnyVolume.tick.Goals as goal
 
 pub returns : goal.returns
 returns g c =
     let m = means g.C.Code.coding g.L.Layout.slot g.L.Layout.column g.B.Bank.state g.B.Bank.meaning in
-    let v = c.args.volume.now in
+    let v = c.args.self.now in
     let w = c.tick.new.self in
     let k = c.tick.ensures.kept in
     let made : Makes (shape m v) (state m v) tick _ (state m w) = record { answer = refl; changes = (c.tick.ensures.changes, records_same m v w k.table) } in

@@ -5,12 +5,12 @@ use Rattle.history.specs.Calls.Call.{margin}
 use Rattle.history.specs.Calls.Answer.{number}
 use Rattle.runs.specs.Told.{state}
 use Rattle.runs.proofs.Going.{no_bytes, goes}
-use Rattle.runs.proofs.single.margin.Goals as goal
+use Rattle.runs.proofs.single.VolumeAnyVolume.margin.Goals as goal
 
 pub returns : goal.returns
 returns g c =
     let m = means g.C.Code.coding g.L.Layout.slot g.L.Layout.column g.B.Bank.state g.B.Bank.meaning in
-    let v = c.args.volume.now in
+    let v = c.args.self.now in
     let made : Makes (shape m v) (state m v) margin _ (state m v) = record { answer = ap number c.margin.ensures.value; changes = (refl, refl) } in
     record {
       makes = made;

@@ -9,12 +9,12 @@ use Rattle.history.specs.Calls.Call.{read}
 use Rattle.history.specs.Calls.Answer.{bytes}
 use Rattle.runs.specs.Told.{state}
 use Rattle.runs.proofs.Going.{shape_same, records_same, no_bytes, goes, handed_out}
-use Rattle.runs.proofs.single.read.Goals as goal
+use Rattle.runs.proofs.single.VolumeAnyVolume.read.Goals as goal
 
 pub returns : goal.returns
 returns g c =
     let m = means g.C.Code.coding g.L.Layout.slot g.L.Layout.column g.B.Bank.state g.B.Bank.meaning in
-    let v = c.args.volume.now in
+    let v = c.args.self.now in
     let w = c.read.new.self in
     let k = c.read.ensures.kept in
     let a = c.args.block in

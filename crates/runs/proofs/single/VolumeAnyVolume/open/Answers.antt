@@ -6,12 +6,12 @@ use Rattle.history.specs.Calls.Call.{open_slot}
 use Rattle.history.specs.Calls.Answer.{order}
 use Rattle.runs.specs.Told.{state}
 use Rattle.runs.proofs.Going.{shape_same, no_bytes, goes, order_slot}
-use Rattle.runs.proofs.single.open.Goals as goal
+use Rattle.runs.proofs.single.VolumeAnyVolume.open.Goals as goal
 
 pub returns : goal.returns
 returns g c =
     let m = means g.C.Code.coding g.L.Layout.slot g.L.Layout.column g.B.Bank.state g.B.Bank.meaning in
-    let v = c.args.volume.now in
+    let v = c.args.self.now in
     let w = c.open.new.self in
     let k = c.open.ensures.kept in
     let made : Makes (shape m v) (state m v) (open_slot c.args.slot) _ (state m w) = record { answer = ap (answered order) c.open.ensures.answered; changes = (ap (λ b. members_of (m.slots b)) c.open.ensures.bank, c.open.ensures.records) } in
