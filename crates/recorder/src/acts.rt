@@ -103,7 +103,7 @@ pub(crate) fn act<V: AnyVolume>(volume: &mut V, operation: Operation) -> Result<
     ensures same { V.shape volume.new ≡ V.shape volume.old }
     ensures acts { ActsOn (V.shape volume.old) (V.state volume.old) (act_of operation) (told_line result) (V.state volume.new) }
 {
-    match operation.act() {
+    match Act::from(operation) {
         Act::Tick => {
             volume.tick();
             Ok(0)
