@@ -6,7 +6,7 @@ ghost use Rattle.parity.specs.Stripe.{Content, Fits, column, gaps, missing, plai
 ghost use Rattle.parity.specs.Ways.{takes_plain, takes_mixed, recovered};
 ghost use Rattle.recovery.specs.Answers.{stripe_answer, shaped, on_recover};
 ghost use Rattle.recovery.specs.Columns.{stripe_of};
-ghost use Rattle.recovery.specs.Losses.{listed, noted};
+ghost use Rattle.recovery.specs.Losses.{noted};
 
 use crate::clear;
 use crate::loss::Lost;
@@ -34,13 +34,6 @@ fn count_missing(present: &[bool]) -> usize
     count
 }
 
-// What is lost, with column `t` unless it is present.
-fn note(lost: Lost, t: usize, present: bool) -> Lost
-    ensures value { result ≡ (if present then lost else noted (t ∷ listed lost)) }
-{
-    if present { lost } else { lost.with(t) }
-}
-
 // The missing ones of the first `k` columns.
 fn lost_data(present: &[bool], k: usize) -> Lost
     requires length { k ≤ length present.now }
@@ -48,7 +41,7 @@ fn lost_data(present: &[bool], k: usize) -> Lost
 {
     let mut lost = Lost::Nothing;
     for t in 0..k {
-        lost = note(lost, t, present[t]);
+        lost.note(t, present[t]);
     }
     lost
 }

@@ -1,5 +1,5 @@
 // The missing data columns of a stripe, as far as they matter for recovery.
-ghost use Rattle.std.specs.Prelude.{◌≡◌, ◌∷◌};
+ghost use Rattle.std.specs.Prelude.{◌≡◌, ◌∷◌, if◌then◌else◌};
 ghost use Rattle.parity.specs.Ways.{way};
 ghost use Rattle.recovery.specs.Losses.{listed, noted};
 
@@ -22,6 +22,15 @@ impl Lost {
             Lost::Nothing => Lost::One(t),
             Lost::One(i) => Lost::Two(t, i),
             Lost::Two(i, _) => Lost::Two(t, i),
+        }
+    }
+
+    // Notes column `t`, which is above those noted so far, unless it is present. This is in place, since a copy for each column is slow.
+    pub fn note(&mut self, t: usize, present: bool)
+        ensures after { self.new ≡ (if present then self.old else noted (t ∷ listed self.old)) }
+    {
+        if !present {
+            *self = self.with(t);
         }
     }
 

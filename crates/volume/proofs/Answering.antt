@@ -3,8 +3,10 @@ use Rattle.std.proofs.Common.{◌≡◌, ℕ, ◌*◌, ◌<◌, ◌≤◌, Bool,
 use Rattle.std.proofs.lemmas.Bool.{false≢true, cases_eq, and_from, and_left, and_right, cond-true, cond-false, lt-ltb, le-ltb, ne_eqb, eq-eqb, not_from_true, not_from_false, not-true, not-false}
 use Rattle.code.specs.Blocks.{block_size}
 use Rattle.code.specs.Codes.{Coding, Lawful}
+use Rattle.code.specs.declared.Code.{Ghosts as Code}
 use Rattle.parity.specs.Ways.{or_else}
 use Rattle.layout.specs.Placing.{Placing}
+use Rattle.layout.specs.declared.Layout.{Ghosts as Layout}
 use Rattle.contents.specs.declared.Refusal.{Refusal}
 use Rattle.contents.specs.Columns.{Members, Frontiers}
 use Rattle.contents.specs.Refusals.{Told, plain, with_loss, outcome}
@@ -13,7 +15,9 @@ use Rattle.contents.specs.Answers.{read_outcome, read_leaves, read_lost, write_t
 use Rattle.contents.specs.Changes.{Spread, WriteChanges, Scrubbed, ScrubChanges}
 use Rattle.volume.specs.Tallies.{counted}
 use Rattle.volume.specs.declared.size.Size.{Size}
+use Rattle.volume.specs.declared.grid.Grid.{Grid}
 use Rattle.volume.specs.Sizes.{Fitting, shape_at}
+use Rattle.volume.specs.Grids.{grid_shape}
 
 -- ---- the shape
 pub valid_at : (C : Coding) → Lawful block_size C → (slot column : ℕ → ℕ → ℕ → ℕ) → ((n s : ℕ) → Placing n (slot n s) (column n s)) → (z : Size) → Fitting C.limit z → Valid (shape_at C slot column z)
@@ -25,6 +29,10 @@ valid_at C L slot column pl z f = record {
   few = f.few;
   wide = f.wide;
 }
+
+pub grid_valid : {C L : Type 0} (K : Code C) (J : Layout L) → ((c : C) → Lawful block_size (K.coding c)) → ((l : L) (n s : ℕ) → Placing n (J.slot l n s) (J.column l n s))
+    → (x : Grid C L K) → Valid (grid_shape K J x)
+grid_valid K J lawful placed x = valid_at (K.coding x.code) (lawful x.code) (J.slot x.layout) (J.column x.layout) (placed x.layout) x.size x.fitting
 
 -- ---- a column that is read
 pub read_here : (o : Option (List ℕ)) (b : List ℕ) (m : Bool) (e : Told) → o ≡ Some b → ◌≡◌ {A = Result Unit Told} (Ok tt) (cond (not (is_some o) && m) (Err e) (Ok tt))

@@ -1,44 +1,34 @@
 -- The size and the shape that the parts of a volume make.
-use Rattle.std.proofs.Common.{◌≡◌, ℕ, ◌≤◌, Bool, true, false, cond, leb, sym, refl, ap, ◌∙◌, ⊎_elim, arith}
-use Rattle.std.proofs.lemmas.Bool.{cases_Bool, and_from, and_parts, cond-true, cond-false, le-leb, leb-true}
+use Rattle.std.proofs.Common.{◌≡◌, ℕ, ◌-◌, ◌≤◌, Bool, true, false, cond, leb, sym, refl, ap, ◌∙◌, ⊎_elim, arith}
+use Rattle.std.proofs.lemmas.Bool.{cases_Bool, and_parts, cond-true, cond-false, leb-true, ltb-true}
 use Rattle.code.specs.Codes.{Coding}
 use Rattle.member.specs.Meaning.{most_blocks}
 use Rattle.contents.specs.Columns.{Members}
 use Rattle.contents.specs.Shapes.{shape_of, formed, fit, smallest}
-use Rattle.contents.proofs.Forming.{smallest_few}
 use Rattle.volume.specs.declared.size.Size.{Size}
-use Rattle.volume.specs.Sizes.{settled, size_of, shape_at}
+use Rattle.volume.specs.Sizes.{Fitting, shape_at}
 use Rattle.volume.specs.Forming.{parts_size}
 
 abbrev sized_by : Bool → ℕ → ℕ → Size
 sized_by b n S = record { slots = cond b n 0; stripes = cond b S 0 }
 
-abbrev nothing : Size
-nothing = record { slots = 0; stripes = 0 }
-
-none_settled : (w : ℕ) → settled w 0 0 ≡ false
-none_settled w = refl
-
--- what the parts make is settled, or nothing
-pub parts_stay : (w n : ℕ) (M : Members) → size_of w (parts_size w n M) ≡ parts_size w n M
-parts_stay w n M =
-    ⊎_elim
-    (λ (e : fit n w (smallest M n) ≡ true).
-    let p : parts_size w n M ≡ record { slots = n; stripes = smallest M n } = ap (λ (b : Bool). sized_by b n (smallest M n)) e in
-    let t : settled w n (smallest M n) ≡ true = and_from _ _ e (le-leb (smallest M n) most_blocks (smallest_few M n)) in
-    ap (size_of w) p ∙ ap (λ (b : Bool). sized_by b n (smallest M n)) t ∙ sym p)
-    (λ (e : fit n w (smallest M n) ≡ false).
-    let p : parts_size w n M ≡ nothing = ap (λ (b : Bool). sized_by b n (smallest M n)) e in
-    ap (size_of w) p ∙ ap (λ (b : Bool). sized_by b 0 0) (none_settled w) ∙ sym p)
-    (cases_Bool (fit n w (smallest M n)))
-
--- and gives the shape that they form
+-- what the parts make gives the shape that they form
 pub parts_form : (C : Coding) (slot column : ℕ → ℕ → ℕ → ℕ) (n : ℕ) (M : Members) → shape_at C slot column (parts_size C.limit n M) ≡ formed C slot column n M
 parts_form C slot column n M = by (fit n C.limit (smallest M n))
   where
     by : (b : Bool) → shape_at C slot column (sized_by b n (smallest M n)) ≡ cond b (shape_of C slot column n (smallest M n)) (shape_of C slot column 0 0)
     by true = refl
     by false = refl
+
+-- a size that fits
+pub fitting_of : (w n S : ℕ) → fit n w S ≡ true → S ≤ most_blocks → Fitting w (record { slots = n; stripes = S })
+fitting_of w n S e few =
+    let a = and_parts (leb 4 n) _ e in
+    let b = and_parts (leb n 18) _ a.1 in
+    let d = and_parts (leb (n - 2) w) _ b.1 in
+    let wide = leb-true 4 n a.0 in
+    let long = ltb-true 0 S d.1 in
+    record { reach = leb-true (n - 2) w d.0; most = leb-true n 18 b.0; few = few; wide = λ _. wide; long = λ _. long }
 
 -- parts that fit have slots
 pub fit_slots : (w n : ℕ) (S : ℕ) → cond (fit n w S) n 0 ≡ 0 → fit n w S ≡ false

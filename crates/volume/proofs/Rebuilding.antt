@@ -1,12 +1,13 @@
 -- What events on a slot and steps of a rebuild answer and change, check by check.
-use Rattle.std.proofs.Common.{◌≡◌, ℕ, ◌+◌, ◌<◌, ◌≤◌, Bool, true, false, cond, not, ◌&&◌, ltb, List, length, get_or, set, is_some, is_ok, Some, None, Ok, Err, Option, Result, sym, refl, ap, ◌∙◌, ap₂, ⊎_elim, arith, get_or-set_other, get_or-set_same}
+use Rattle.std.proofs.Common.{◌≡◌, ℕ, ◌+◌, ◌<◌, ◌≤◌, Bool, true, false, cond, not, ◌&&◌, ltb, List, length, get_or, set, is_some, is_ok, Some, None, Ok, Err, Option, Result, sym, refl, ap, ◌∙◌, subst, ap₂, ⊎_elim, arith, get_or-set_other, get_or-set_same}
 use mathlib.Core.Path.{fun_ext}
 use Rattle.std.proofs.lemmas.Bool.{false≢true, cases_eq, cases_lt, cond-true, cond-false, eq-eqb, ne_eqb, lt-ltb, le-ltb, and_parts, not-true, not-false}
 use Rattle.code.specs.Blocks.{block_size}
 use Rattle.member.specs.Faults.{Refusal}
 use Rattle.member.specs.Meaning.{Meaning, write_refusal}
 use Rattle.member.specs.Changes.{Written, Renewed}
-use Rattle.bank.specs.Slots.{Slots, on_slot}
+use Rattle.bank.specs.declared.BankFault.{BankFault}
+use Rattle.bank.specs.Slots.{Slots, on_slot, bank_refusal}
 use Rattle.bank.specs.Changes.{Changed}
 use Rattle.contents.specs.declared.SlotState.{SlotState}
 use Rattle.contents.specs.declared.SlotState.TheVariants.{Idle, Open}
@@ -14,16 +15,19 @@ use Rattle.contents.specs.declared.SlotEvent.{SlotEvent}
 use Rattle.contents.specs.declared.SlotEvent.TheVariants.{Stepped}
 use Rattle.contents.specs.declared.SlotRecord.{SlotRecord}
 use Rattle.contents.specs.Columns.{Members, Frontiers, held}
+use Rattle.contents.specs.declared.Loss.{Loss}
 use Rattle.contents.specs.declared.Refusal.{Refusal as CallRefusal}
+use Rattle.contents.specs.declared.Refusal.TheVariants.{Lost, Failed}
 use Rattle.contents.specs.Refusals.{Told, plain, with_loss, outcome, answering}
 use Rattle.contents.specs.Records.{Records, frontiers, is_open, idle_at, with_record, slot_after, slot_answer, answer_by}
-use Rattle.contents.specs.Shapes.{Shape, lossy, loss_at, recovered_at}
+use Rattle.contents.specs.Shapes.{Shape, Roomy, missing_at, lossy, loss_at, recovered_at}
 use Rattle.contents.specs.Changes.{Moved}
 use Rattle.contents.specs.Rebuilds.{event_outcome, event_records, open_here, rebuilt, step_outcome, step_takes, fault_of, step_fault, StepChanges}
 use Rattle.contents.proofs.Statuses.{shown, held_is}
+use Rattle.volume.specs.Columns.{ColumnRebuilt}
 use Rattle.volume.specs.Slots.{members_of, records_of}
 use Rattle.volume.proofs.Looking.{members_here, members_beyond, members_empty}
-use Rattle.volume.proofs.Walking.{moved_of}
+use Rattle.volume.proofs.Walking.{moved_of, written_moved}
 
 -- ---- one record of a table
 pub row_placed : (rows : List SlotRecord) (i : ℕ) (x : SlotRecord) → i < length rows → records_of (set rows i x) ≡ with_record (records_of rows) i x
@@ -55,7 +59,7 @@ pub renewed_moved : (ms ns : Slots) (i : ℕ) → Changed Renewed ms i ns → Mo
 renewed_moved = moved_of Renewed (record { level = record { count = refl; height = refl }; present = refl }) (λ m n t. t.level.count)
 
 -- what a member with blocks refuses is what its bank refuses
-pub write_told : (ms : Slots) (i s n : ℕ) → 0 < (members_of ms i).count → on_slot ms i s (λ m. write_refusal m s n) ≡ write_refusal (members_of ms i) s n
+write_told : (ms : Slots) (i s n : ℕ) → 0 < (members_of ms i).count → on_slot ms i s (λ m. write_refusal m s n) ≡ write_refusal (members_of ms i) s n
 write_told ms i s n l =
     ⊎_elim
     (λ (a : i < ms.size).
@@ -78,9 +82,54 @@ behind_missing M F s i j e l = ap (λ (x : ℕ). is_some (held M F s x)) e ∙ a
 abbrev pub column_answer : Option Refusal → ℕ → Result Unit Told
 column_answer o f = answering tt (rebuilt o f)
 
-pub rebuilt_any : (o : Option Refusal) (f g : ℕ) → column_answer o f ≡ column_answer o g
+rebuilt_any : (o : Option Refusal) (f g : ℕ) → column_answer o f ≡ column_answer o g
 rebuilt_any None f g = refl
 rebuilt_any (Some x) f g = refl
+
+-- what a bank answers to a write goes up with its fault
+pub record Lifted (w : Result Unit BankFault) (r : Result Unit CallRefusal) : Type 0 where
+  pub answered : outcome r ≡ column_answer (bank_refusal w) 0
+  pub fault : fault_of r ≡ bank_refusal w
+
+pub lifted_ok : (w : Result Unit BankFault) (u : Unit) → w ≡ Ok u → Lifted w (Ok tt)
+lifted_ok w u e = record { answered = ap (λ (x : Result Unit BankFault). column_answer (bank_refusal x) 0) (sym e); fault = ap bank_refusal (sym e) }
+
+pub lifted_err : (w : Result Unit BankFault) (f : BankFault) → w ≡ Err f → (r : Result Unit CallRefusal) (x : CallRefusal) → r ≡ Err x → x ≡ Failed f.fault → Lifted w r
+lifted_err w f e r x q h =
+    let a : r ≡ Err (Failed f.fault) = q ∙ ap Err h in
+    record {
+      answered = ap outcome a ∙ ap (λ (x : Result Unit BankFault). column_answer (bank_refusal x) 0) (sym e);
+      fault = ap (fault_of {U = Unit}) a ∙ ap bank_refusal (sym e);
+    }
+
+-- a column is not rebuilt, or it is written
+pub column_lossy : (V : Shape) (M : Members) (F : Frontiers) (s i : ℕ) → 2 < missing_at V M F s → (l : Loss) → l ≡ loss_at V M F s → ColumnRebuilt V M F s i M (Err (Lost l))
+column_lossy V M F s i h l e =
+    let t = lt-ltb 2 (missing_at V M F s) h in
+    record {
+      answered = λ _. ap (λ (x : Loss). Err (with_loss 4 x)) e ∙ sym (cond-true _ _ _ t);
+      fault = λ _. sym (cond-true _ _ _ t);
+      taken = λ f. absurd (false≢true (sym f ∙ t));
+      refused = λ _. refl;
+    }
+
+pub column_written : (V : Shape) (ms : Slots) (F : Frontiers) (s i : ℕ) → missing_at V (members_of ms) F s ≤ 2 → i < V.slots → s < V.stripes
+    → (ns : Slots) → ns ≡ ms → (b : List ℕ) → b ≡ recovered_at V (members_of ms) F s (V.back s i) → length b ≡ block_size → (os : Slots) → Changed (λ m n. Written m s b n) ns i os
+    → (w : Result Unit BankFault) → bank_refusal w ≡ on_slot ns i s (λ m. write_refusal m s (length b)) → (r : Result Unit CallRefusal) → Lifted w r → ColumnRebuilt V (members_of ms) F s i (members_of os) r
+column_written V ms F s i h li ls ns same b eb lb os ch w ew r up =
+    let M = members_of ms in
+    let f = le-ltb 2 (missing_at V M F s) h in
+    let moved = subst (λ (x : List ℕ). Moved (λ m n. Written m s x n) i M (members_of os)) eb (subst (λ (x : Slots). Moved (λ m n. Written m s b n) i (members_of x) (members_of os)) same (written_moved s b ns os i ch)) in
+    let told : Roomy V M → bank_refusal w ≡ write_refusal (M i) s block_size = λ room.
+    let q = room i li in
+    let k : 0 < (M i).count = omega arith in
+    ew ∙ ap (λ (x : Slots). on_slot x i s (λ m. write_refusal m s (length b))) same ∙ write_told ms i s (length b) k ∙ ap (write_refusal (M i) s) lb in
+    record {
+      answered = λ room. up.answered ∙ ap (λ (o : Option Refusal). column_answer o 0) (told room) ∙ rebuilt_any (write_refusal (M i) s block_size) 0 s ∙ sym (cond-false _ _ _ f);
+      fault = λ room. up.fault ∙ told room ∙ sym (cond-false _ _ _ f);
+      taken = λ _. moved;
+      refused = λ t. absurd (false≢true (sym f ∙ t));
+    }
 
 -- ---- a step
 pub record StepDone (V : Shape) (M : Members) (R : Records) (i : ℕ) (N : Members) (Q : Records) (r : Result ℕ Told) : Type 0 where

@@ -8,6 +8,8 @@ use Rattle.member.specs.Changes.{Written}
 use Rattle.bank.specs.declared.BankFault.{BankFault}
 use Rattle.bank.specs.Slots.{Slots, bank_refusal, on_slot}
 use Rattle.contents.specs.declared.Status.{Status}
+use Rattle.contents.specs.contracts.Status.{the_type}
+use denote.Enum.Bare.{sameb}
 use Rattle.contents.specs.declared.Status.TheVariants as st
 use Rattle.contents.specs.Columns.{Members, Frontiers, status, held, is_current, is_unreadable, is_absent, count}
 use Rattle.contents.specs.Changes.{Moved, Steps, Put}
@@ -31,6 +33,16 @@ not_absent st.Current e = refl
 not_absent st.Gone e = absurd (false≢true e)
 not_absent st.Behind e = absurd (false≢true e)
 not_absent st.Unreadable e = refl
+
+-- a status that was compared with Unreadable
+pub unreadable_is : (x y : Status) (b : Bool) → b ≡ not (sameb the_type x st.Unreadable) → x ≡ y → is_unreadable y ≡ not b
+unreadable_is x y b h e = ap is_unreadable (sym e) ∙ told x ∙ ap not (sym h)
+  where
+    told : (x : Status) → is_unreadable x ≡ not (not (sameb the_type x st.Unreadable))
+    told st.Current = refl
+    told st.Gone = refl
+    told st.Behind = refl
+    told st.Unreadable = refl
 
 -- an unreadable column is missing
 pub unreadable_missing : (M : Members) (F : Frontiers) (s i j : ℕ) → j ≡ i → is_unreadable (status M F s i) ≡ true → is_some (held M F s j) ≡ false

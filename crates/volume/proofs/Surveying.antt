@@ -1,5 +1,5 @@
 -- What is missing of a stripe, column by column, and what is lost, slot by slot.
-use Rattle.std.proofs.Common.{◌≡◌, ℕ, zero, suc, ◌+◌, ◌*◌, ◌^◌, ◌<◌, ◌≤◌, Bool, true, false, cond, List, [], ◌∷◌, length, is_some, Option, sym, refl, ap, ◌∙◌, ap₂, add-zero, add_assoc, pow-suc, arith, pow_mono, pow-add}
+use Rattle.std.proofs.Common.{◌≡◌, ℕ, zero, suc, ◌+◌, ◌*◌, ◌%◌, ◌^◌, ◌<◌, ◌≤◌, Bool, true, false, cond, not, List, [], ◌∷◌, length, is_some, Option, sym, refl, ap, ◌∙◌, ap₂, add-zero, add_assoc, pow-suc, arith, pow_mono, pow-add}
 use Rattle.std.proofs.lemmas.Bool.{cond_both}
 use Rattle.parity.specs.Stripe.{gaps, missing}
 use Rattle.parity.proofs.Gaps.{gaps_none, gaps_more, missing_more}
@@ -8,12 +8,25 @@ use Rattle.recovery.specs.declared.loss.Lost.TheVariants.{Nothing}
 use Rattle.recovery.specs.Losses.{listed, noted}
 use Rattle.contents.specs.declared.Loss.{Loss}
 use Rattle.contents.specs.declared.Status.{Status}
+use Rattle.contents.specs.contracts.Status.{the_type}
+use denote.Enum.Bare.{sameb}
+use mir.Val.{bool_byte}
+use Rattle.std.proofs.Math.Nat.{one-mul, mod-eq_of_lt}
 use Rattle.contents.specs.declared.Status.TheVariants.{Current, Gone, Behind, Unreadable}
-use Rattle.contents.specs.Columns.{Members, Frontiers, status, is_gone, is_behind, is_unreadable, mask, loss_of}
+use Rattle.contents.specs.Columns.{Members, Frontiers, status, is_current, is_gone, is_behind, is_unreadable, mask, loss_of}
 use Rattle.contents.proofs.Masks.{loss_more}
 use Rattle.volume.specs.Masks.{Room, with_status}
 
 -- ---- columns
+pub current_eq : (x : Status) → sameb the_type x Current ≡ is_current x
+current_eq Current = refl
+current_eq Gone = refl
+current_eq Behind = refl
+current_eq Unreadable = refl
+
+pub absent_is : (b : Bool) → bool_byte (not b) ≡ cond b 0 1
+absent_is true = refl
+absent_is false = refl
 
 -- what is told of the first t columns
 pub record Told (cols : ℕ → Option (List ℕ)) (t : ℕ) (x : Lost) (n : ℕ) : Type 0 where
@@ -60,9 +73,6 @@ at_most_one true m e = omega arith
 at_most_one false m e = omega arith
 
 -- ---- masks
-pub bit_more : (n b c : ℕ) → b ≡ 2 ^ n → c ≡ b * 2 → c ≡ 2 ^ (n + 1)
-bit_more n b c e f = f ∙ ap (λ (x : ℕ). x * 2) e ∙ sym (pow-add 2 n 1)
-
 mask_low : (p : ℕ → Bool) (n : ℕ) → mask p n < 2 ^ n
 unfolding mask
 mask_low p zero = omega arith
@@ -74,8 +84,8 @@ mask_low p (suc n) =
 bit_low : (n : ℕ) → n < 18 → 2 ^ n ≤ 131072
 bit_low n h = let k : n ≤ 17 = omega arith in pow_mono k
 
-pub bit_room : (n b : ℕ) → n < 18 → b ≡ 2 ^ n → b ≤ 131072
-bit_room n b h e = omega (arith, bit_low n h)
+pub bit_is : (n : ℕ) → n < 18 → (1 * 2 ^ n) % 4294967296 ≡ 2 ^ n
+bit_is n h = let l = bit_low n h in let e : 1 * 2 ^ n ≡ 2 ^ n = one-mul (2 ^ n) in rw e (mod-eq_of_lt (omega arith))
 
 pub loss_room : (M : Members) (F : Frontiers) (n s b : ℕ) (l : Loss) → l ≡ loss_of M F n s → n < 18 → b ≡ 2 ^ n → Room l b
 unfolding loss_of

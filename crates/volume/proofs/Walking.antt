@@ -1,13 +1,21 @@
 -- What calls on a bank, slot by slot, make of its members.
-use Rattle.std.proofs.Common.{◌≡◌, ℕ, ◌+◌, ◌<◌, ◌≤◌, true, false, cond, ◌&&◌, eqb, ltb, List, length, Some, None, sym, refl, ap, ◌∙◌, subst, ap₂, ⊎_elim, add-one, arith}
+use Rattle.std.proofs.Common.{◌≡◌, ℕ, zero, suc, ◌+◌, ◌<◌, ◌≤◌, min, Bool, true, false, cond, ◌&&◌, eqb, ltb, List, [], ◌∷◌, ◌++◌, map, length, Some, None, Ok, Err, Result, sym, refl, ap, ◌∙◌, subst, ap₂, ⊎_elim, add-zero, add-one, length-append, arith}
 use Rattle.std.proofs.lemmas.Bool.{cases_Bool, cases_lt, cond-true, cond-false, lt-ltb, le-ltb}
+use Rattle.std.proofs.lemmas.List.Elements.{filter-append}
+use Rattle.std.proofs.lemmas.List.Sums.{fold-append}
+use Rattle.std.proofs.lemmas.List.{map-append}
+use Rattle.std.specs.List.{filter, fold, range_with_len}
+use Rattle.std.specs.Result.{IfOk, result_unwrap_or}
 use Rattle.code.specs.Blocks.{block_size}
 use Rattle.member.specs.Faults.{Refusal}
-use Rattle.member.specs.Meaning.{Meaning, write_refusal}
+use Rattle.member.specs.Meaning.{Meaning, most_blocks, write_refusal}
 use Rattle.member.specs.Changes.{Written, Ticked}
-use Rattle.bank.specs.Slots.{Slots}
+use Rattle.bank.specs.declared.BankFault.{BankFault}
+use Rattle.bank.specs.Slots.{Slots, bank_refusal, slot_refusal}
 use Rattle.bank.specs.Changes.{Changed}
 use Rattle.contents.specs.Changes.{Moved}
+use Rattle.contents.specs.Columns.{Members, count}
+use Rattle.contents.specs.Shapes.{smallest}
 use Rattle.contents.proofs.Members.{written_count}
 use Rattle.volume.specs.Slots.{members_of, empty_member}
 use Rattle.volume.specs.Turns.{in_turn}
@@ -67,22 +75,49 @@ pub written_moved : (s : ℕ) (v : List ℕ) (ms ns : Slots) (i : ℕ) → Chang
 written_moved s v = moved_of (λ m n. Written m s v n) (empty_written s v) (λ m n w. written_count m s v n w)
 
 -- the count of a slot
-pub count_here : (ms : Slots) (i : ℕ) → i < ms.size → (members_of ms i).count ≡ (ms.member i).count
+count_here : (ms : Slots) (i : ℕ) → i < ms.size → (members_of ms i).count ≡ (ms.member i).count
 count_here ms i l =
     ⊎_elim
     (λ (p : 0 < (ms.member i).count). ap (λ (m : Meaning). m.count) (members_here ms i l p))
     (λ (p : (ms.member i).count ≤ 0). ap (λ (m : Meaning). m.count) (members_empty ms i p) ∙ omega arith)
     (cases_lt 0 (ms.member i).count)
 
-pub count_beyond : (ms : Slots) (i : ℕ) → ms.size ≤ i → (members_of ms i).count ≡ 0
+count_beyond : (ms : Slots) (i : ℕ) → ms.size ≤ i → (members_of ms i).count ≡ 0
 count_beyond ms i l = ap (λ (m : Meaning). m.count) (members_beyond ms i l)
 
--- what a question about a slot's count tells of the slot
-pub slot_there : (i n : ℕ) (x : Refusal) → None ≡ cond (ltb i n) None (Some x) → i < n
-slot_there i n x e = ⊎_elim (λ (l : i < n). l) (λ (l : n ≤ i). absurd (let q : None ≡ Some x = e ∙ cond-false _ _ _ (le-ltb i n l) in let z : ◌≡◌ {A = ℕ} 0 1 = cc in omega arith)) (cases_lt i n)
+-- what a question about a slot's count tells
+pub count_told : (ms : Slots) (i : ℕ) (r : Result ℕ BankFault) → bank_refusal r ≡ slot_refusal ms i → IfOk r (λ n. n ≡ (ms.member i).count) → result_unwrap_or r 0 ≡ (members_of ms i).count
+count_told ms i (Ok n) e v =
+    v ∙ sym (count_here ms i (⊎_elim (λ (l : i < ms.size). l) (λ (l : ms.size ≤ i). absurd (let q = e ∙ cond-false _ _ _ (le-ltb i ms.size l) in let z : ◌≡◌ {A = ℕ} 0 1 = cc in omega arith)) (cases_lt i ms.size)))
+count_told ms i (Err f) e v =
+    sym (count_beyond ms i (⊎_elim (λ (l : i < ms.size). absurd (let q = e ∙ cond-true _ _ _ (lt-ltb i ms.size l) in let z : ◌≡◌ {A = ℕ} 0 1 = cc in omega arith)) (λ (l : ms.size ≤ i). l) (cases_lt i ms.size)))
 
-pub slot_not_there : (i n : ℕ) (x y : Refusal) → Some y ≡ cond (ltb i n) None (Some x) → n ≤ i
-slot_not_there i n x y e = ⊎_elim (λ (l : i < n). absurd (let q : Some y ≡ None = e ∙ cond-true _ _ _ (lt-ltb i n l) in let z : ◌≡◌ {A = ℕ} 0 1 = cc in omega arith)) (λ (l : n ≤ i). l) (cases_lt i n)
+-- ---- numbers in a row
+range_more : (a n : ℕ) → range_with_len a (suc n) ≡ range_with_len a n ++ (a + n) ∷ []
+range_more a zero = ap (λ (x : ℕ). x ∷ []) (sym (add-zero a))
+range_more a (suc n) = ap (λ (xs : List ℕ). a ∷ xs) (range_more (a + 1) n ∙ ap (λ (x : ℕ). range_with_len (a + 1) n ++ x ∷ []) (omega arith))
+
+range_last : (n : ℕ) → range_with_len 0 (suc n) ≡ range_with_len 0 n ++ n ∷ []
+range_last n = range_more 0 n ∙ ap (λ (x : ℕ). range_with_len 0 n ++ x ∷ []) (omega arith)
+
+pub counted_range : (p : ℕ → Bool) (n : ℕ) → length (filter p (range_with_len 0 n)) ≡ count p n
+unfolding count
+counted_range p zero = refl
+counted_range p (suc n) =
+    ap (λ (xs : List ℕ). length (filter p xs)) (range_last n) ∙ ap length (filter-append p (range_with_len 0 n) (n ∷ []))
+    ∙ length-append (filter p (range_with_len 0 n)) (filter p (n ∷ [])) ∙ ap₂ (λ (x y : ℕ). x + y) (counted_range p n) (one (p n))
+  where
+    one : (b : Bool) → length (cond b (n ∷ []) []) ≡ cond b 1 0
+    one true = refl
+    one false = refl
+
+pub smallest_range : (M : Members) (n : ℕ) → fold min most_blocks (map (λ i. (M i).count) (range_with_len 0 n)) ≡ smallest M n
+unfolding smallest
+smallest_range M zero = refl
+smallest_range M (suc n) =
+    ap (λ (xs : List ℕ). fold min most_blocks (map (λ i. (M i).count) xs)) (range_last n)
+    ∙ ap (fold min most_blocks) (map-append (λ i. (M i).count) (range_with_len 0 n) (n ∷ []))
+    ∙ fold-append min most_blocks (map (λ i. (M i).count) (range_with_len 0 n)) ((M n).count ∷ []) ∙ ap (λ (x : ℕ). min x (M n).count) (smallest_range M n)
 
 -- ---- calls in turn
 pub turn_none : {S : Type 0} (f : S → ℕ → S) (s : S) → s ≡ in_turn f 0 s

@@ -1,6 +1,8 @@
 pub mod Slots
 pub mod Sizes
 pub mod Masks
+pub mod Grids
+pub mod Columns
 pub mod Volumes
 pub mod Forming
 pub mod Stores

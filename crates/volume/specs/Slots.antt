@@ -5,7 +5,8 @@ use Rattle.recovery.specs.Losses.{noted}
 use Rattle.member.specs.Faults.{Origin}
 use Rattle.member.specs.Meaning.{Meaning}
 use Rattle.bank.specs.Slots as bank
-use Rattle.contents.specs.Columns.{Members, columns}
+use Rattle.bank.specs.declared.Bank.{Ghosts as Bank}
+use Rattle.contents.specs.Columns.{Members}
 use Rattle.contents.specs.declared.SlotRecord.{SlotRecord}
 use Rattle.contents.specs.Records.{Records, idle_at, is_open}
 use Rattle.volume.specs.declared.survey.Survey.{Survey}
@@ -42,9 +43,12 @@ empty_member = record {
 unfoldable pub members_of : bank.Slots → Members
 members_of ms i = cond (nat_lt i ms.size && nat_lt 0 (ms.member i).count) (ms.member i) empty_member
 
--- the columns of stripe s over n slots, by the bank, the slots' records and the layout's places
-abbrev pub columns_in : bank.Slots → List SlotRecord → (ℕ → ℕ → ℕ → ℕ) → ℕ → ℕ → ℕ → Option (List ℕ)
-columns_in ms rows slot n s = columns (members_of ms) (frontier_of rows) (slot n) s
+-- the slots that a bank means, and the members that a volume finds in them
+abbrev pub slots_in : {B : Type 0} → Bank B → B → bank.Slots
+slots_in B b = B.meaning (B.state b)
+
+abbrev pub members_in : {B : Type 0} → Bank B → B → Members
+members_in B b = members_of (slots_in B b)
 
 -- what a survey tells of a stripe of k data columns: the missing data columns as far as they matter, whether P is current, and how many
 -- columns are missing

@@ -1,45 +1,36 @@
 -- A volume's shape, members and frontiers, by its parts.
 use Rattle.std.specs.Prelude.{◌≡◌, ℕ, Ok, Err, Result}
-use Rattle.code.specs.Codes.{Coding}
-use Rattle.bank.specs.Slots.{Slots}
+use Rattle.bank.specs.declared.Bank.{Ghosts as Bank}
+use Rattle.code.specs.declared.Code.{Ghosts as Code}
+use Rattle.layout.specs.declared.Layout.{Ghosts as Layout}
 use Rattle.contents.specs.Columns.{Members, Frontiers}
 use Rattle.contents.specs.Shapes.{Shape}
 use Rattle.volume.specs.declared.volume.Volume.{Volume}
-use Rattle.volume.specs.Sizes.{size_of, shape_at}
-use Rattle.volume.specs.Slots.{members_of, frontier_of, records_of}
+use Rattle.volume.specs.Grids.{grid_shape, grid_frontiers}
+use Rattle.volume.specs.Slots.{members_in, records_of}
 use Rattle.contents.specs.Records.{Records}
 use Rattle.contents.specs.Refusals.{Told, told}
 use Rattle.contents.specs.declared.Refusal.{Refusal}
 use Rattle.volume.specs.declared.volume.rebuilds.Order.{Order}
 
--- the meanings of a volume's parts: what a code and a layout mean, and the members of a bank
-pub record Means (C L B : Type 0) : Type 0 where
-  pub coding : C → Coding
-  pub slot : L → ℕ → ℕ → ℕ → ℕ
-  pub column : L → ℕ → ℕ → ℕ → ℕ
-  pub slots : B → Slots
+-- by the records K, L and B of its code, its layout and its bank
+abbrev pub shape : {C L B : Type 0} → (K : Code C) → Layout L → Volume C L B K → Shape
+shape K L v = grid_shape K L v.grid
 
-abbrev pub means : {C L B S : Type 0} → (C → Coding) → (slot column : L → ℕ → ℕ → ℕ → ℕ) → (B → S) → (S → Slots) → Means C L B
-means coding slot column state meaning = record { coding = coding; slot = slot; column = column; slots = λ b. meaning (state b) }
+abbrev pub members : {C L B : Type 0} {K : Code C} → Bank B → Volume C L B K → Members
+members B v = members_in B v.bank
 
-module _ {C L B : Type 0} (m : Means C L B) (v : Volume C L B) where
-  abbrev pub shape : Shape
-  shape = shape_at (m.coding v.code) (m.slot v.layout) (m.column v.layout) (size_of (m.coding v.code).limit v.size)
+abbrev pub frontiers : {C L B : Type 0} {K : Code C} → Volume C L B K → Frontiers
+frontiers v = grid_frontiers v.grid
 
-  abbrev pub members : Members
-  members = members_of (m.slots v.bank)
-
-  abbrev pub frontiers : Frontiers
-  frontiers = frontier_of v.table.rows
-
-  abbrev pub records : Records
-  records = records_of v.table.rows
+abbrev pub records : {C L B : Type 0} {K : Code C} → Volume C L B K → Records
+records v = records_of v.grid.table.rows
 
 -- what no call on a volume changes: its code, its layout and its size
-pub record PartsKept {C L B : Type 0} (v w : Volume C L B) : Type 0 where
-  pub code : w.code ≡ v.code
-  pub layout : w.layout ≡ v.layout
-  pub size : w.size ≡ v.size
+pub record PartsKept {C L B : Type 0} {K : Code C} (v w : Volume C L B K) : Type 0 where
+  pub code : w.grid.code ≡ v.grid.code
+  pub layout : w.grid.layout ≡ v.grid.layout
+  pub size : w.grid.size ≡ v.grid.size
 
 -- what an order that is handed out is for: a slot; or the refusal, in numbers
 abbrev pub ordered : Result Order Refusal → Result ℕ Told
@@ -47,8 +38,8 @@ ordered (Ok o) = Ok o.slot
 ordered (Err e) = Err (told e)
 
 -- what ticks, reads, writes and scrubs leave: also the slots' records
-pub record Kept {C L B : Type 0} (v w : Volume C L B) : Type 0 where
-  pub code : w.code ≡ v.code
-  pub layout : w.layout ≡ v.layout
-  pub size : w.size ≡ v.size
-  pub table : w.table ≡ v.table
+pub record Kept {C L B : Type 0} {K : Code C} (v w : Volume C L B K) : Type 0 where
+  pub code : w.grid.code ≡ v.grid.code
+  pub layout : w.grid.layout ≡ v.grid.layout
+  pub size : w.grid.size ≡ v.grid.size
+  pub table : w.grid.table ≡ v.grid.table

@@ -3,7 +3,7 @@ ghost use Rattle.std.specs.Prelude.{◌≡◌, if◌then◌else◌};
 ghost use Rattle.member.specs.Faults.{refused_with};
 ghost use Rattle.bank.specs.Slots.{bank_refusal};
 ghost use Rattle.contents.specs.Columns.{status};
-ghost use Rattle.volume.specs.Slots.{members_of, frontier_of};
+ghost use Rattle.volume.specs.Slots.{frontier_of, members_in};
 
 use crate::slots::SlotTable;
 use bank::{Bank, BankFault};
@@ -16,13 +16,13 @@ fn tells_gone(answer: Result<(), BankFault>) -> bool
 {
     match answer {
         Ok(()) => false,
-        Err(refusal) => refusal.fault.cause.number() == Cause::Gone.number(),
+        Err(refusal) => refusal.fault.cause == Cause::Gone,
     }
 }
 
 // Whether the member in a slot is gone.
 pub fn is_gone<B: Bank>(bank: &B, slot: usize) -> bool
-    ensures value { result ≡ (members_of (B.Bank.meaning (B.Bank.state bank.now)) slot).gone }
+    ensures value { result ≡ (members_in B.Bank bank.now slot).gone }
 {
     tells_gone(bank.look(slot, 0))
 }
@@ -42,7 +42,7 @@ fn present_status(below: bool, readable: bool) -> Status
 
 // How the column of a stripe on a slot stands.
 pub fn status_of<B: Bank>(table: &SlotTable, bank: &B, stripe: usize, slot: usize) -> Status
-    ensures value { result ≡ status (members_of (B.Bank.meaning (B.Bank.state bank.now))) (frontier_of table.now.rows) stripe slot }
+    ensures value { result ≡ status (members_in B.Bank bank.now) (frontier_of table.now.rows) stripe slot }
 {
     if bank.look(slot, stripe).is_ok() {
         return present_status(table.has(slot, stripe), true);

@@ -1,16 +1,14 @@
 // How many slots and stripes a volume has.
 ghost use Rattle.std.specs.Prelude.{◌≡◌};
-ghost use Rattle.code.specs.Codes.{Coding};
 ghost use Rattle.contents.specs.Shapes.{fit};
 ghost use Rattle.bank.specs.Slots.{told};
 ghost use Rattle.volume.specs.Forming.{parts_size};
-ghost use Rattle.volume.specs.Sizes.{settled, size_of, Fitting};
-ghost use Rattle.volume.specs.Slots.{members_of};
+ghost use Rattle.volume.specs.Sizes.{Fitting};
+ghost use Rattle.volume.specs.Slots.{members_in, slots_in};
 
 use crate::walks::smallest_count;
 use bank::Bank;
 use code::Code;
-use member::MOST_BLOCKS;
 
 // How many slots a volume has at most.
 pub const MOST_SLOTS: usize = 18;
@@ -29,24 +27,10 @@ pub fn fits(limit: usize, slots: usize, stripes: usize) -> bool
     4 <= slots && slots <= MOST_SLOTS && slots - 2 <= limit && 0 < stripes
 }
 
-// The size that a volume with this code works with.
-pub fn size_with<C: Code>(code: &C, size: Size) -> Size
-    ensures value { result ≡ size_of (C.Code.coding code.now).limit size }
-    ensures fitting { Fitting (C.Code.coding code.now).limit result }
-{
-    if fits(code.limit(), size.slots, size.stripes) && size.stripes <= MOST_BLOCKS {
-        size
-    } else {
-        Size {
-            slots: 0,
-            stripes: 0,
-        }
-    }
-}
-
 // The size that a code and a bank make: nothing where they do not fit.
 pub fn parts_size<C: Code, B: Bank>(code: &C, bank: &B) -> Size
-    ensures value { result ≡ parts_size (C.Code.coding code.now).limit (told (B.Bank.meaning (B.Bank.state bank.now)).size) (members_of (B.Bank.meaning (B.Bank.state bank.now))) }
+    ensures value { result ≡ parts_size (C.Code.coding code.now).limit (told (slots_in B.Bank bank.now).size) (members_in B.Bank bank.now) }
+    ensures fitting { Fitting (C.Code.coding code.now).limit result }
 {
     let slots = bank.len();
     if slots > MOST_SLOTS {

@@ -26,11 +26,11 @@ impl SlotTable {
         }
     }
 
-    // Whether a stripe is below the frontier of a slot.
+    // Whether a stripe is below the frontier of a slot: the one test of a frontier. A slot without a record has no stripe.
     pub fn has(&self, slot: usize, stripe: usize) -> bool
         ensures value { result ≡ nat_lt stripe (frontier_of self.now.rows slot) }
     {
-        row_has(&self.rows, slot, stripe)
+        slot < MOST_SLOTS && stripe < self.rows[slot].frontier
     }
 
     // Whether the first `stripes` stripes are all below the frontier of a slot.
@@ -48,7 +48,11 @@ impl SlotTable {
         if slot >= n {
             return None;
         }
-        row_frontier(&self.rows, n, slot)
+        let row = self.rows[slot];
+        match row.state {
+            SlotState::Idle => None,
+            SlotState::Open => Some(row.frontier),
+        }
     }
 
     // The record of a slot meets an event, and every other record is kept.
@@ -62,29 +66,6 @@ impl SlotTable {
         ensures records { records_of self.new.rows ≡ with_record (records_of self.old.rows) slot (slot_after stripes (records_of self.old.rows slot) event) }
         ensures answered { outcome result ≡ slot_answer stripes (records_of self.old.rows slot) event }
     {
-        let row = &mut self.rows[slot];
-        row.meet(event, stripes)
-    }
-}
-
-// Whether a stripe is below the frontier of a slot: the one test of a frontier. A slot without a record has no stripe.
-fn row_has(rows: &[SlotRecord; 18], slot: usize, stripe: usize) -> bool
-    ensures value { result ≡ nat_lt stripe (frontier_of rows.now slot) }
-{
-    if slot >= MOST_SLOTS {
-        return false;
-    }
-    stripe < rows[slot].frontier
-}
-
-// The frontier of a slot that is open, of the first `n`.
-fn row_frontier(rows: &[SlotRecord; 18], n: usize, slot: usize) -> Option<usize>
-    requires within { (slot < n) × (n ≤ 18) }
-    ensures value { result ≡ open_frontier rows.now n slot }
-{
-    let row = rows[slot];
-    match row.state {
-        SlotState::Idle => None,
-        SlotState::Open => Some(row.frontier),
+        self.rows[slot].meet(event, stripes)
     }
 }

@@ -4,12 +4,10 @@ ghost use Rattle.contents.specs.Changes.{TickChanges};
 ghost use Rattle.contents.specs.Answers.{margin};
 ghost use Rattle.contents.specs.Shapes.{blocks, Roomy};
 ghost use Rattle.contents.specs.Theorems.{FitsOn, CountsKept};
-ghost use Rattle.volume.specs.Volumes.{means, shape, members, frontiers, Kept};
+ghost use Rattle.volume.specs.Volumes.{shape, members, frontiers, Kept};
 ghost use Rattle.volume.specs.Turns.{in_turn};
 
-use crate::block_count;
-use crate::size::{Size, size_with};
-use crate::slots::SlotTable;
+use crate::grid::Grid;
 use crate::walks::{tick_slots, weak_slots};
 use bank::Bank;
 use code::Code;
@@ -23,52 +21,48 @@ pub mod writes;
 
 // A formatted volume. Its bank is reached through its calls alone.
 #[derive(Drop)]
-pub struct Volume<C, L, B> {
-    code: C,
-    layout: L,
-    size: Size,
-    table: SlotTable,
+pub struct Volume<C: Code, L, B> {
+    grid: Grid<C, L>,
     bank: B,
 }
 
 impl<C: Code, L: Layout, B: Bank> Volume<C, L, B> {
     // Lets one unit of time pass for each member, in slot order.
     pub fn tick(&mut self)
-        ensures exact { B.Bank.state self.new.bank ≡ in_turn B.Bank.ticked (shape (means C.Code.coding L.Layout.slot L.Layout.column B.Bank.state B.Bank.meaning) self.old).slots (B.Bank.state self.old.bank) }
-        ensures changes { TickChanges (shape (means C.Code.coding L.Layout.slot L.Layout.column B.Bank.state B.Bank.meaning) self.old) (members (means C.Code.coding L.Layout.slot L.Layout.column B.Bank.state B.Bank.meaning) self.old) (members (means C.Code.coding L.Layout.slot L.Layout.column B.Bank.state B.Bank.meaning) self.new) }
+        ensures exact { B.Bank.state self.new.bank ≡ in_turn B.Bank.ticked (shape C.Code L.Layout self.old).slots (B.Bank.state self.old.bank) }
+        ensures changes { TickChanges (shape C.Code L.Layout self.old) (members B.Bank self.old) (members B.Bank self.new) }
         ensures kept { Kept self.old self.new }
-        ensures right { Roomy (shape (means C.Code.coding L.Layout.slot L.Layout.column B.Bank.state B.Bank.meaning) self.old) (members (means C.Code.coding L.Layout.slot L.Layout.column B.Bank.state B.Bank.meaning) self.old) → FitsOn (shape (means C.Code.coding L.Layout.slot L.Layout.column B.Bank.state B.Bank.meaning) self.old) (members (means C.Code.coding L.Layout.slot L.Layout.column B.Bank.state B.Bank.meaning) self.old) (frontiers (means C.Code.coding L.Layout.slot L.Layout.column B.Bank.state B.Bank.meaning) self.old) (members (means C.Code.coding L.Layout.slot L.Layout.column B.Bank.state B.Bank.meaning) self.new) × CountsKept (members (means C.Code.coding L.Layout.slot L.Layout.column B.Bank.state B.Bank.meaning) self.old) (members (means C.Code.coding L.Layout.slot L.Layout.column B.Bank.state B.Bank.meaning) self.new) }
+        ensures right { Roomy (shape C.Code L.Layout self.old) (members B.Bank self.old) → FitsOn (shape C.Code L.Layout self.old) (members B.Bank self.old) (frontiers self.old) (members B.Bank self.new) × CountsKept (members B.Bank self.old) (members B.Bank self.new) }
     {
-        let size = size_with(&self.code, self.size);
-        tick_slots(&mut self.bank, size.slots);
+        tick_slots(&mut self.bank, self.grid.size.slots);
     }
 
     // How many more slots may be lost before a block is: two, less the slots that are gone or not wholly rebuilt, not under 0.
     pub fn margin(&self) -> usize
-        ensures value { result ≡ margin (shape (means C.Code.coding L.Layout.slot L.Layout.column B.Bank.state B.Bank.meaning) self.now) (members (means C.Code.coding L.Layout.slot L.Layout.column B.Bank.state B.Bank.meaning) self.now) (frontiers (means C.Code.coding L.Layout.slot L.Layout.column B.Bank.state B.Bank.meaning) self.now) }
+        ensures value { result ≡ margin (shape C.Code L.Layout self.now) (members B.Bank self.now) (frontiers self.now) }
     {
-        let size = size_with(&self.code, self.size);
-        2usize.saturating_sub(weak_slots(&self.table, &self.bank, size.slots, size.stripes))
+        let size = self.grid.size;
+        2usize.saturating_sub(weak_slots(&self.grid.table, &self.bank, size.slots, size.stripes))
     }
 
     // How many slots there are.
     pub fn slots(&self) -> usize
-        ensures value { result ≡ (shape (means C.Code.coding L.Layout.slot L.Layout.column B.Bank.state B.Bank.meaning) self.now).slots }
+        ensures value { result ≡ (shape C.Code L.Layout self.now).slots }
     {
-        size_with(&self.code, self.size).slots
+        self.grid.size.slots
     }
 
     // How many stripes there are.
     pub fn stripes(&self) -> usize
-        ensures value { result ≡ (shape (means C.Code.coding L.Layout.slot L.Layout.column B.Bank.state B.Bank.meaning) self.now).stripes }
+        ensures value { result ≡ (shape C.Code L.Layout self.now).stripes }
     {
-        size_with(&self.code, self.size).stripes
+        self.grid.size.stripes
     }
 
     // How many blocks there are.
     pub fn blocks(&self) -> usize
-        ensures value { result ≡ blocks (shape (means C.Code.coding L.Layout.slot L.Layout.column B.Bank.state B.Bank.meaning) self.now) }
+        ensures value { result ≡ blocks (shape C.Code L.Layout self.now) }
     {
-        block_count(size_with(&self.code, self.size))
+        self.grid.blocks()
     }
 }

@@ -5,7 +5,7 @@ ghost use Rattle.member.specs.Changes.{Ticked, Written};
 ghost use Rattle.contents.specs.Columns.{count};
 ghost use Rattle.contents.specs.Changes.{Steps, Moved};
 ghost use Rattle.contents.specs.Shapes.{smallest};
-ghost use Rattle.volume.specs.Slots.{members_of, frontier_of};
+ghost use Rattle.volume.specs.Slots.{frontier_of, members_in};
 ghost use Rattle.volume.specs.Turns.{in_turn};
 
 use crate::members::is_gone;
@@ -16,29 +16,24 @@ use member::MOST_BLOCKS;
 
 // How many blocks the member in a slot has; none where there is no such slot.
 pub fn count_at<B: Bank>(bank: &B, slot: usize) -> usize
-    ensures value { result ≡ (members_of (B.Bank.meaning (B.Bank.state bank.now)) slot).count }
+    ensures value { result ≡ (members_in B.Bank bank.now slot).count }
 {
-    match bank.count(slot) {
-        Ok(count) => count,
-        Err(_) => 0,
-    }
+    bank.count(slot).unwrap_or(0)
 }
 
 // The smallest count of the first `n` members.
 pub fn smallest_count<B: Bank>(bank: &B, n: usize) -> usize
-    ensures value { result ≡ smallest (members_of (B.Bank.meaning (B.Bank.state bank.now))) n }
+    ensures value { result ≡ smallest (members_in B.Bank bank.now) n }
 {
-    let mut least = MOST_BLOCKS;
-    for slot in 0..n {
-        least = least.min(count_at(bank, slot));
-    }
-    least
+    (0..n)
+        .map(|slot| count_at(bank, slot))
+        .fold(MOST_BLOCKS, |least, count| least.min(count))
 }
 
 // Ticks the members in the first `n` slots.
 pub fn tick_slots<B: Bank>(bank: &mut B, n: usize)
     ensures exact { B.Bank.state bank.new ≡ in_turn B.Bank.ticked n (B.Bank.state bank.old) }
-    ensures ticked { Steps n (λ i. Moved Ticked i) (members_of (B.Bank.meaning (B.Bank.state bank.old))) (members_of (B.Bank.meaning (B.Bank.state bank.new))) }
+    ensures ticked { Steps n (λ i. Moved Ticked i) (members_in B.Bank bank.old) (members_in B.Bank bank.new) }
 {
     for slot in 0..n {
         let _ = bank.tick(slot);
@@ -48,7 +43,7 @@ pub fn tick_slots<B: Bank>(bank: &mut B, n: usize)
 // Writes zeros to block `s` of the first `n` slots; what a member refuses is left.
 pub fn zero_stripe<B: Bank>(bank: &mut B, n: usize, s: usize)
     ensures exact { B.Bank.state bank.new ≡ in_turn (λ t i. B.Bank.wrote t i s zeros) n (B.Bank.state bank.old) }
-    ensures zeroed { Steps n (λ i. Moved (λ a b. Written a s zeros b) i) (members_of (B.Bank.meaning (B.Bank.state bank.old))) (members_of (B.Bank.meaning (B.Bank.state bank.new))) }
+    ensures zeroed { Steps n (λ i. Moved (λ a b. Written a s zeros b) i) (members_in B.Bank bank.old) (members_in B.Bank bank.new) }
 {
     let zero = [0u8; BLOCK];
     for slot in 0..n {
@@ -59,32 +54,25 @@ pub fn zero_stripe<B: Bank>(bank: &mut B, n: usize, s: usize)
 // Writes zeros to the first `stripes` blocks of the first `n` slots, stripe by stripe.
 pub fn zero_stripes<B: Bank>(bank: &mut B, n: usize, stripes: usize)
     ensures exact { B.Bank.state bank.new ≡ in_turn (λ t s. in_turn (λ u i. B.Bank.wrote u i s zeros) n t) stripes (B.Bank.state bank.old) }
-    ensures zeroed { Steps stripes (λ s. Steps n (λ i. Moved (λ a b. Written a s zeros b) i)) (members_of (B.Bank.meaning (B.Bank.state bank.old))) (members_of (B.Bank.meaning (B.Bank.state bank.new))) }
+    ensures zeroed { Steps stripes (λ s. Steps n (λ i. Moved (λ a b. Written a s zeros b) i)) (members_in B.Bank bank.old) (members_in B.Bank bank.new) }
 {
     for s in 0..stripes {
         zero_stripe(bank, n, s);
     }
 }
 
-// Whether a slot's member is gone or does not have all stripes, of which there is at least one: 1 or 0.
-fn weak<B: Bank>(table: &SlotTable, bank: &B, stripes: usize, slot: usize) -> usize
-    ensures value { result ≡ (if (members_of (B.Bank.meaning (B.Bank.state bank.now)) slot).gone || nat_lt (frontier_of table.now.rows slot) stripes then 1 else 0) }
-    ensures low { result ≤ 1 }
+// Whether a slot's member is gone or does not have all stripes, of which there is at least one.
+fn is_weak<B: Bank>(table: &SlotTable, bank: &B, stripes: usize, slot: usize) -> bool
+    ensures value { result ≡ (members_in B.Bank bank.now slot).gone || nat_lt (frontier_of table.now.rows slot) stripes }
 {
-    if is_gone(bank, slot) || !table.has_all(slot, stripes) {
-        1
-    } else {
-        0
-    }
+    is_gone(bank, slot) || !table.has_all(slot, stripes)
 }
 
 // How many of the first `n` slots are gone or do not have all stripes.
 pub fn weak_slots<B: Bank>(table: &SlotTable, bank: &B, n: usize, stripes: usize) -> usize
-    ensures value { result ≡ count (λ i. (members_of (B.Bank.meaning (B.Bank.state bank.now)) i).gone || nat_lt (frontier_of table.now.rows i) stripes) n }
+    ensures value { result ≡ count (λ i. (members_in B.Bank bank.now i).gone || nat_lt (frontier_of table.now.rows i) stripes) n }
 {
-    let mut weak_ones = 0;
-    for slot in 0..n {
-        weak_ones += weak(table, bank, stripes, slot);
-    }
-    weak_ones
+    (0..n)
+        .filter(|&slot| is_weak(table, bank, stripes, slot))
+        .count()
 }

@@ -8,10 +8,11 @@ ghost use Rattle.contents.specs.Refusals.{fitness_number};
 ghost use Rattle.contents.specs.Shapes.{formed, Valid, Roomy, FitsVolume};
 ghost use Rattle.contents.specs.Theorems.{CountsKept};
 ghost use Rattle.contents.specs.Records.{idle_at};
-ghost use Rattle.volume.specs.Slots.{members_of};
-ghost use Rattle.volume.specs.Volumes.{means, shape, members, frontiers};
+ghost use Rattle.volume.specs.Slots.{members_in, slots_in};
+ghost use Rattle.volume.specs.Volumes.{shape, members, frontiers};
 ghost use Rattle.volume.specs.Turns.{in_turn};
 
+use crate::grid::Grid;
 use crate::size::parts_size;
 use crate::slots::SlotTable;
 use crate::volume::Volume;
@@ -41,7 +42,7 @@ impl<C: Code, L: Layout, B: Bank> Blank<C, L, B> {
 
     // Whether the parts fit: four to eighteen slots, a code for so many columns, and no member without blocks.
     pub fn fit(&self) -> Fitness
-        ensures value { fitness_number result ≡ fit_number (told (B.Bank.meaning (B.Bank.state self.now.bank)).size) (C.Code.coding self.now.code).limit (members_of (B.Bank.meaning (B.Bank.state self.now.bank))) }
+        ensures value { fitness_number result ≡ fit_number (told (slots_in B.Bank self.now.bank).size) (C.Code.coding self.now.code).limit (members_in B.Bank self.now.bank) }
     {
         if parts_size(&self.code, &self.bank).slots == 0 {
             Fitness::Unfit
@@ -52,16 +53,16 @@ impl<C: Code, L: Layout, B: Bank> Blank<C, L, B> {
 
     // A volume of these parts, with zeros in every block that its member takes. Parts that do not fit give one without slots.
     pub fn format(self) -> Volume<C, L, B>
-        ensures code { result.code ≡ self.code }
-        ensures layout { result.layout ≡ self.layout }
-        ensures shape { shape (means C.Code.coding L.Layout.slot L.Layout.column B.Bank.state B.Bank.meaning) result ≡ formed (C.Code.coding self.code) (L.Layout.slot self.layout) (L.Layout.column self.layout) (told (B.Bank.meaning (B.Bank.state self.bank)).size) (members_of (B.Bank.meaning (B.Bank.state self.bank))) }
-        ensures table { result.table.rows ≡ replicate 18 (idle_at (shape (means C.Code.coding L.Layout.slot L.Layout.column B.Bank.state B.Bank.meaning) result).stripes) }
-        ensures exact { B.Bank.state result.bank ≡ in_turn (λ t s. in_turn (λ u i. B.Bank.wrote u i s zeros) (shape (means C.Code.coding L.Layout.slot L.Layout.column B.Bank.state B.Bank.meaning) result).slots t) (shape (means C.Code.coding L.Layout.slot L.Layout.column B.Bank.state B.Bank.meaning) result).stripes (B.Bank.state self.bank) }
-        ensures changes { FormatChanges (shape (means C.Code.coding L.Layout.slot L.Layout.column B.Bank.state B.Bank.meaning) result) (members_of (B.Bank.meaning (B.Bank.state self.bank))) (members (means C.Code.coding L.Layout.slot L.Layout.column B.Bank.state B.Bank.meaning) result) }
-        ensures fits { FitsVolume (shape (means C.Code.coding L.Layout.slot L.Layout.column B.Bank.state B.Bank.meaning) result) (members (means C.Code.coding L.Layout.slot L.Layout.column B.Bank.state B.Bank.meaning) result) (frontiers (means C.Code.coding L.Layout.slot L.Layout.column B.Bank.state B.Bank.meaning) result) (λ _. zeros) }
-        ensures counts { CountsKept (members_of (B.Bank.meaning (B.Bank.state self.bank))) (members (means C.Code.coding L.Layout.slot L.Layout.column B.Bank.state B.Bank.meaning) result) }
-        ensures valid { Valid (shape (means C.Code.coding L.Layout.slot L.Layout.column B.Bank.state B.Bank.meaning) result) }
-        ensures roomy { Roomy (shape (means C.Code.coding L.Layout.slot L.Layout.column B.Bank.state B.Bank.meaning) result) (members (means C.Code.coding L.Layout.slot L.Layout.column B.Bank.state B.Bank.meaning) result) }
+        ensures code { result.grid.code ≡ self.code }
+        ensures layout { result.grid.layout ≡ self.layout }
+        ensures shape { shape C.Code L.Layout result ≡ formed (C.Code.coding self.code) (L.Layout.slot self.layout) (L.Layout.column self.layout) (told (slots_in B.Bank self.bank).size) (members_in B.Bank self.bank) }
+        ensures table { result.grid.table.rows ≡ replicate 18 (idle_at (shape C.Code L.Layout result).stripes) }
+        ensures exact { B.Bank.state result.bank ≡ in_turn (λ t s. in_turn (λ u i. B.Bank.wrote u i s zeros) (shape C.Code L.Layout result).slots t) (shape C.Code L.Layout result).stripes (B.Bank.state self.bank) }
+        ensures changes { FormatChanges (shape C.Code L.Layout result) (members_in B.Bank self.bank) (members B.Bank result) }
+        ensures fits { FitsVolume (shape C.Code L.Layout result) (members B.Bank result) (frontiers result) (λ _. zeros) }
+        ensures counts { CountsKept (members_in B.Bank self.bank) (members B.Bank result) }
+        ensures valid { Valid (shape C.Code L.Layout result) }
+        ensures roomy { Roomy (shape C.Code L.Layout result) (members B.Bank result) }
     {
         let Blank {
             code,
@@ -71,10 +72,12 @@ impl<C: Code, L: Layout, B: Bank> Blank<C, L, B> {
         let size = parts_size(&code, &bank);
         zero_stripes(&mut bank, size.slots, size.stripes);
         Volume {
-            code,
-            layout,
-            size,
-            table: SlotTable::idle(size.stripes),
+            grid: Grid {
+                code,
+                layout,
+                size,
+                table: SlotTable::idle(size.stripes),
+            },
             bank,
         }
     }

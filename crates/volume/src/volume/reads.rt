@@ -1,79 +1,64 @@
 // Reads of a volume: one member where the block's column is current, else what the others recover.
-ghost use Rattle.std.specs.Prelude.{◌≡◌, ◌+◌, ◌-◌, ◌≤◌, not, ◌&&◌, length, is_some, is_ok, if◌then◌else◌, Ok, Err, nat_lt};
+ghost use Rattle.std.specs.Prelude.{◌≡◌, not, ◌&&◌, length, is_some, is_ok, if◌then◌else◌, Ok, Err, nat_lt};
 ghost use Rattle.code.specs.Blocks.{block_size};
-ghost use Rattle.parity.specs.Stripe.{missing};
-ghost use Rattle.parity.specs.Ways.{recovered};
-ghost use Rattle.contents.specs.Columns.{loss_of};
 ghost use Rattle.contents.specs.Refusals.{outcome, with_loss};
 ghost use Rattle.contents.specs.Answers.{read_outcome, read_leaves};
-ghost use Rattle.volume.specs.Slots.{members_of, frontier_of, columns_in};
+ghost use Rattle.volume.specs.Grids.{columns_on, missing_on, loss_on, recovered_on};
+ghost use Rattle.volume.specs.Slots.{slots_in};
 ghost use Rattle.contents.specs.Theorems.{Reading, Losing};
-ghost use Rattle.volume.specs.Volumes.{means, shape, members, frontiers, Kept};
+ghost use Rattle.volume.specs.Volumes.{shape, members, frontiers, Kept};
 
-use crate::size::size_with;
-use crate::slots::SlotTable;
+use crate::grid::Grid;
 use crate::volume::Volume;
-use crate::{block_count, load, loss_of, rebuild, survey_of};
 use bank::Bank;
 use code::{BLOCK, Code};
 use contents::Refusal;
 use layout::Layout;
 
-// Column `t` of stripe `s` into a buffer, from its member alone if it is current.
-fn read_column<C: Code, L: Layout, B: Bank>(
-    code: &C,
-    layout: &L,
-    n: usize,
-    table: &SlotTable,
-    bank: &mut B,
-    s: usize,
-    t: usize,
-    into: &mut [u8],
-) -> Result<(), Refusal>
-    requires shape { (2 ≤ n) × (n ≤ 18) × (n - 2 ≤ (C.Code.coding code.now).limit) }
-    requires sized { length into.old ≡ block_size }
-    ensures answered { outcome result ≡ (if not (is_some (columns_in (B.Bank.meaning (B.Bank.state bank.old)) table.now.rows (L.Layout.slot layout.now) n s t)) && nat_lt 2 (missing (columns_in (B.Bank.meaning (B.Bank.state bank.old)) table.now.rows (L.Layout.slot layout.now) n s) ((n - 2) + 2)) then Err (with_loss 4 (loss_of (members_of (B.Bank.meaning (B.Bank.state bank.old))) (frontier_of table.now.rows) n s)) else Ok tt) }
-    ensures after { into.new ≡ (if is_ok result then recovered (C.Code.coding code.now) (n - 2) (columns_in (B.Bank.meaning (B.Bank.state bank.old)) table.now.rows (L.Layout.slot layout.now) n s) t else into.old) }
-    ensures same { B.Bank.meaning (B.Bank.state bank.new) ≡ B.Bank.meaning (B.Bank.state bank.old) }
-{
-    if load(layout, n, table, bank, s, t, into) {
-        return Ok(());
+impl<C: Code, L: Layout> Grid<C, L> {
+    // Column `t` of stripe `s` into a buffer, from its member alone if it is current.
+    fn read_column<B: Bank>(
+        &self,
+        bank: &mut B,
+        s: usize,
+        t: usize,
+        into: &mut [u8],
+    ) -> Result<(), Refusal>
+        requires sized { length into.old ≡ block_size }
+        ensures answered { outcome result ≡ (if not (is_some (columns_on L.Layout self.now (slots_in B.Bank bank.old) s t)) && nat_lt 2 (missing_on L.Layout self.now (slots_in B.Bank bank.old) s) then Err (with_loss 4 (loss_on self.now (slots_in B.Bank bank.old) s)) else Ok tt) }
+        ensures after { into.new ≡ (if is_ok result then recovered_on C.Code L.Layout self.now (slots_in B.Bank bank.old) s t else into.old) }
+        ensures same { slots_in B.Bank bank.new ≡ slots_in B.Bank bank.old }
+    {
+        if self.load(bank, s, t, into) {
+            return Ok(());
+        }
+        let survey = self.survey(bank, s);
+        if survey.missing > 2 {
+            return Err(Refusal::Lost(self.loss(bank, s)));
+        }
+        self.rebuild(bank, s, t, survey, into);
+        Ok(())
     }
-    let survey = survey_of(layout, n, table, bank, s);
-    if survey.missing > 2 {
-        return Err(Refusal::Lost(loss_of(n, table, bank, s)));
-    }
-    rebuild(code, layout, n, table, bank, s, t, survey, into);
-    Ok(())
 }
 
 impl<C: Code, L: Layout, B: Bank> Volume<C, L, B> {
     // Writes a block of the volume into the buffer: what its member holds, or what the others recover.
     pub fn read(&mut self, block: usize, buffer: &mut [u8]) -> Result<(), Refusal>
-        ensures answered { outcome result ≡ read_outcome (shape (means C.Code.coding L.Layout.slot L.Layout.column B.Bank.state B.Bank.meaning) self.old) (members (means C.Code.coding L.Layout.slot L.Layout.column B.Bank.state B.Bank.meaning) self.old) (frontiers (means C.Code.coding L.Layout.slot L.Layout.column B.Bank.state B.Bank.meaning) self.old) block (length buffer.old) }
-        ensures after { buffer.new ≡ read_leaves (shape (means C.Code.coding L.Layout.slot L.Layout.column B.Bank.state B.Bank.meaning) self.old) (members (means C.Code.coding L.Layout.slot L.Layout.column B.Bank.state B.Bank.meaning) self.old) (frontiers (means C.Code.coding L.Layout.slot L.Layout.column B.Bank.state B.Bank.meaning) self.old) block buffer.old }
-        ensures same { B.Bank.meaning (B.Bank.state self.new.bank) ≡ B.Bank.meaning (B.Bank.state self.old.bank) }
+        ensures answered { outcome result ≡ read_outcome (shape C.Code L.Layout self.old) (members B.Bank self.old) (frontiers self.old) block (length buffer.old) }
+        ensures after { buffer.new ≡ read_leaves (shape C.Code L.Layout self.old) (members B.Bank self.old) (frontiers self.old) block buffer.old }
+        ensures same { slots_in B.Bank self.new.bank ≡ slots_in B.Bank self.old.bank }
         ensures kept { Kept self.old self.new }
-        ensures right { Reading (shape (means C.Code.coding L.Layout.slot L.Layout.column B.Bank.state B.Bank.meaning) self.old) (members (means C.Code.coding L.Layout.slot L.Layout.column B.Bank.state B.Bank.meaning) self.old) (frontiers (means C.Code.coding L.Layout.slot L.Layout.column B.Bank.state B.Bank.meaning) self.old) }
-        ensures loss { Losing (shape (means C.Code.coding L.Layout.slot L.Layout.column B.Bank.state B.Bank.meaning) self.old) (members (means C.Code.coding L.Layout.slot L.Layout.column B.Bank.state B.Bank.meaning) self.old) (frontiers (means C.Code.coding L.Layout.slot L.Layout.column B.Bank.state B.Bank.meaning) self.old) }
+        ensures right { Reading (shape C.Code L.Layout self.old) (members B.Bank self.old) (frontiers self.old) }
+        ensures loss { Losing (shape C.Code L.Layout self.old) (members B.Bank self.old) (frontiers self.old) }
     {
-        let size = size_with(&self.code, self.size);
         if buffer.len() != BLOCK {
             return Err(Refusal::Length);
         }
-        if block >= block_count(size) {
+        if block >= self.grid.blocks() {
             return Err(Refusal::NoSuch);
         }
-        let k = size.slots - 2;
-        read_column(
-            &self.code,
-            &self.layout,
-            size.slots,
-            &self.table,
-            &mut self.bank,
-            block / k,
-            block % k,
-            buffer,
-        )
+        let k = self.grid.size.slots - 2;
+        self.grid
+            .read_column(&mut self.bank, block / k, block % k, buffer)
     }
 }

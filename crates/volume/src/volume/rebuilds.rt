@@ -1,25 +1,19 @@
 // Replacement of a slot's member, and the rebuild of what it should hold, stripe by stripe, while the volume is in use.
 ghost use Rattle.std.specs.Prelude.{◌≡◌, ◌<◌, ◌≤◌, true, false, is_ok, if◌then◌else◌, None, Err};
-ghost use Rattle.code.specs.Blocks.{block_size};
-ghost use Rattle.member.specs.Meaning.{write_refusal};
-ghost use Rattle.member.specs.Changes.{Written};
-ghost use Rattle.bank.specs.Slots.{bank_refusal};
 ghost use Rattle.contents.specs.declared.SlotEvent.TheVariants.{Opened, Closed};
-ghost use Rattle.contents.specs.Refusals.{outcome, with_loss, answering};
+ghost use Rattle.contents.specs.Refusals.{outcome};
 ghost use Rattle.contents.specs.Records.{frontiers};
-ghost use Rattle.contents.specs.Shapes.{lossy, loss_at, recovered_at, Roomy};
-ghost use Rattle.contents.specs.Changes.{Moved};
+ghost use Rattle.contents.specs.Shapes.{Roomy};
 ghost use Rattle.contents.specs.Theorems.{CountsKept, TellsLoss};
-ghost use Rattle.contents.specs.Rebuilds.{event_records, replace_outcome, open_outcome, step_outcome, step_fault, close_outcome, rebuilt, fault_of, open_here, ReplaceChanges, StepChanges, FitsOver};
-ghost use Rattle.volume.specs.Slots.{members_of, frontier_of};
-ghost use Rattle.volume.specs.Sizes.{Fitting, shape_at};
-ghost use Rattle.volume.specs.Volumes.{means, shape, members, records, PartsKept, ordered};
+ghost use Rattle.contents.specs.Rebuilds.{event_records, replace_outcome, open_outcome, step_outcome, step_fault, close_outcome, fault_of, open_here, ReplaceChanges, StepChanges, FitsOver};
+ghost use Rattle.volume.specs.Columns.{ColumnRebuilt};
+ghost use Rattle.volume.specs.Grids.{grid_shape, grid_frontiers};
+ghost use Rattle.volume.specs.Slots.{members_in};
+ghost use Rattle.volume.specs.Volumes.{shape, members, records, PartsKept, ordered};
 
-use crate::size::{Size, size_with};
-use crate::slots::SlotTable;
+use crate::grid::Grid;
 use crate::volume::Volume;
-use crate::{loss_of, rebuild, survey_of};
-use bank::{Bank, BankFault};
+use bank::Bank;
 use code::{BLOCK, Code};
 use contents::{Refusal, SlotEvent};
 use layout::Layout;
@@ -38,129 +32,100 @@ impl Order {
     }
 }
 
-// A bank's answer as the answer of its volume: the fault goes up whole.
-fn lifted(answer: Result<(), BankFault>) -> Result<(), Refusal>
-    ensures answered { outcome result ≡ answering tt (rebuilt (bank_refusal answer) 0) }
-    ensures fault { fault_of result ≡ bank_refusal answer }
-{
-    answer?;
-    Ok(())
-}
-
-// Writes what is recovered of stripe `s` to a slot that is behind it, unless three or more columns are missing.
-fn rebuild_column<C: Code, L: Layout, B: Bank>(
-    code: &C,
-    layout: &L,
-    size: Size,
-    table: &SlotTable,
-    bank: &mut B,
-    slot: usize,
-    s: usize,
-) -> Result<(), Refusal>
-    requires fitting { Fitting (C.Code.coding code.now).limit size }
-    requires within { (slot < size.slots) × (s < size.stripes) }
-    requires behind { frontier_of table.now.rows slot ≤ s }
-    ensures answered { Roomy (shape_at (C.Code.coding code.now) (L.Layout.slot layout.now) (L.Layout.column layout.now) size) (members_of (B.Bank.meaning (B.Bank.state bank.old))) → outcome result ≡ (if lossy (shape_at (C.Code.coding code.now) (L.Layout.slot layout.now) (L.Layout.column layout.now) size) (members_of (B.Bank.meaning (B.Bank.state bank.old))) (frontier_of table.now.rows) s then Err (with_loss 4 (loss_at (shape_at (C.Code.coding code.now) (L.Layout.slot layout.now) (L.Layout.column layout.now) size) (members_of (B.Bank.meaning (B.Bank.state bank.old))) (frontier_of table.now.rows) s)) else answering tt (rebuilt (write_refusal ((members_of (B.Bank.meaning (B.Bank.state bank.old))) slot) s block_size) s)) }
-    ensures fault { Roomy (shape_at (C.Code.coding code.now) (L.Layout.slot layout.now) (L.Layout.column layout.now) size) (members_of (B.Bank.meaning (B.Bank.state bank.old))) → fault_of result ≡ (if lossy (shape_at (C.Code.coding code.now) (L.Layout.slot layout.now) (L.Layout.column layout.now) size) (members_of (B.Bank.meaning (B.Bank.state bank.old))) (frontier_of table.now.rows) s then None else write_refusal ((members_of (B.Bank.meaning (B.Bank.state bank.old))) slot) s block_size) }
-    ensures taken { lossy (shape_at (C.Code.coding code.now) (L.Layout.slot layout.now) (L.Layout.column layout.now) size) (members_of (B.Bank.meaning (B.Bank.state bank.old))) (frontier_of table.now.rows) s ≡ false → Moved (λ a b. Written a s (recovered_at (shape_at (C.Code.coding code.now) (L.Layout.slot layout.now) (L.Layout.column layout.now) size) (members_of (B.Bank.meaning (B.Bank.state bank.old))) (frontier_of table.now.rows) s (L.Layout.column layout.now size.slots s slot)) b) slot (members_of (B.Bank.meaning (B.Bank.state bank.old))) (members_of (B.Bank.meaning (B.Bank.state bank.new))) }
-    ensures refused { lossy (shape_at (C.Code.coding code.now) (L.Layout.slot layout.now) (L.Layout.column layout.now) size) (members_of (B.Bank.meaning (B.Bank.state bank.old))) (frontier_of table.now.rows) s ≡ true → (members_of (B.Bank.meaning (B.Bank.state bank.new))) ≡ (members_of (B.Bank.meaning (B.Bank.state bank.old))) }
-{
-    let survey = survey_of(layout, size.slots, table, bank, s);
-    if survey.missing > 2 {
-        return Err(Refusal::Lost(loss_of(size.slots, table, bank, s)));
+impl<C: Code, L: Layout> Grid<C, L> {
+    // Writes what is recovered of stripe `s` to a slot that is behind it, unless three or more columns are missing.
+    fn rebuild_column<B: Bank>(&self, bank: &mut B, slot: usize, s: usize) -> Result<(), Refusal>
+        requires within { (slot < self.now.size.slots) × (s < self.now.size.stripes) }
+        requires behind { grid_frontiers self.now slot ≤ s }
+        ensures rebuilt { ColumnRebuilt (grid_shape C.Code L.Layout self.now) (members_in B.Bank bank.old) (grid_frontiers self.now) s slot (members_in B.Bank bank.new) result }
+    {
+        let survey = self.survey(bank, s);
+        if survey.missing > 2 {
+            return Err(Refusal::Lost(self.loss(bank, s)));
+        }
+        let mut column = [0u8; BLOCK];
+        let t = self.layout.column_of(self.size.slots, s, slot);
+        self.rebuild(bank, s, t, survey, &mut column);
+        Ok(bank.write(slot, s, &column)?)
     }
-    let mut column = [0u8; BLOCK];
-    let t = layout.column_of(size.slots, s, slot);
-    rebuild(
-        code,
-        layout,
-        size.slots,
-        table,
-        bank,
-        s,
-        t,
-        survey,
-        &mut column,
-    );
-    lifted(bank.write(slot, s, &column))
 }
 
 impl<C: Code, L: Layout, B: Bank> Volume<C, L, B> {
     // Puts a fresh member in the place of a slot's: nothing of the volume is in it until it is rebuilt.
     pub fn replace(&mut self, slot: usize) -> Result<(), Refusal>
-        ensures answered { outcome result ≡ replace_outcome (shape (means C.Code.coding L.Layout.slot L.Layout.column B.Bank.state B.Bank.meaning) self.old) (records (means C.Code.coding L.Layout.slot L.Layout.column B.Bank.state B.Bank.meaning) self.old) slot }
-        ensures changes { ReplaceChanges (shape (means C.Code.coding L.Layout.slot L.Layout.column B.Bank.state B.Bank.meaning) self.old) (members (means C.Code.coding L.Layout.slot L.Layout.column B.Bank.state B.Bank.meaning) self.old) (records (means C.Code.coding L.Layout.slot L.Layout.column B.Bank.state B.Bank.meaning) self.old) slot (members (means C.Code.coding L.Layout.slot L.Layout.column B.Bank.state B.Bank.meaning) self.new) (records (means C.Code.coding L.Layout.slot L.Layout.column B.Bank.state B.Bank.meaning) self.new) }
+        ensures answered { outcome result ≡ replace_outcome (shape C.Code L.Layout self.old) (records self.old) slot }
+        ensures changes { ReplaceChanges (shape C.Code L.Layout self.old) (members B.Bank self.old) (records self.old) slot (members B.Bank self.new) (records self.new) }
         ensures exact { B.Bank.state self.new.bank ≡ (if is_ok result then B.Bank.renewed (B.Bank.state self.old.bank) slot else B.Bank.state self.old.bank) }
         ensures kept { PartsKept self.old self.new }
-        ensures right { FitsOver (shape (means C.Code.coding L.Layout.slot L.Layout.column B.Bank.state B.Bank.meaning) self.old) (members (means C.Code.coding L.Layout.slot L.Layout.column B.Bank.state B.Bank.meaning) self.old) (records (means C.Code.coding L.Layout.slot L.Layout.column B.Bank.state B.Bank.meaning) self.old) (members (means C.Code.coding L.Layout.slot L.Layout.column B.Bank.state B.Bank.meaning) self.new) (records (means C.Code.coding L.Layout.slot L.Layout.column B.Bank.state B.Bank.meaning) self.new) × CountsKept (members (means C.Code.coding L.Layout.slot L.Layout.column B.Bank.state B.Bank.meaning) self.old) (members (means C.Code.coding L.Layout.slot L.Layout.column B.Bank.state B.Bank.meaning) self.new) }
+        ensures right { FitsOver (shape C.Code L.Layout self.old) (members B.Bank self.old) (records self.old) (members B.Bank self.new) (records self.new) × CountsKept (members B.Bank self.old) (members B.Bank self.new) }
     {
-        let size = size_with(&self.code, self.size);
+        let size = self.grid.size;
         if slot >= size.slots {
             return Err(Refusal::NoSuch);
         }
-        self.table.change(slot, SlotEvent::Replaced, size.stripes)?;
+        self.grid
+            .table
+            .change(slot, SlotEvent::Replaced, size.stripes)?;
         let _ = self.bank.fresh(slot);
         Ok(())
     }
 
     // Opens a slot to be rebuilt, and hands out the order for it.
     pub fn open(&mut self, slot: usize) -> Result<Order, Refusal>
-        ensures answered { ordered result ≡ open_outcome (shape (means C.Code.coding L.Layout.slot L.Layout.column B.Bank.state B.Bank.meaning) self.old) (records (means C.Code.coding L.Layout.slot L.Layout.column B.Bank.state B.Bank.meaning) self.old) slot }
+        ensures answered { ordered result ≡ open_outcome (shape C.Code L.Layout self.old) (records self.old) slot }
         ensures bank { self.new.bank ≡ self.old.bank }
-        ensures records { (records (means C.Code.coding L.Layout.slot L.Layout.column B.Bank.state B.Bank.meaning) self.new) ≡ event_records (shape (means C.Code.coding L.Layout.slot L.Layout.column B.Bank.state B.Bank.meaning) self.old) (records (means C.Code.coding L.Layout.slot L.Layout.column B.Bank.state B.Bank.meaning) self.old) slot Opened }
+        ensures records { records self.new ≡ event_records (shape C.Code L.Layout self.old) (records self.old) slot Opened }
         ensures kept { PartsKept self.old self.new }
-        ensures right { FitsOver (shape (means C.Code.coding L.Layout.slot L.Layout.column B.Bank.state B.Bank.meaning) self.old) (members (means C.Code.coding L.Layout.slot L.Layout.column B.Bank.state B.Bank.meaning) self.old) (records (means C.Code.coding L.Layout.slot L.Layout.column B.Bank.state B.Bank.meaning) self.old) (members (means C.Code.coding L.Layout.slot L.Layout.column B.Bank.state B.Bank.meaning) self.old) (records (means C.Code.coding L.Layout.slot L.Layout.column B.Bank.state B.Bank.meaning) self.new) }
+        ensures right { FitsOver (shape C.Code L.Layout self.old) (members B.Bank self.old) (records self.old) (members B.Bank self.old) (records self.new) }
     {
-        let size = size_with(&self.code, self.size);
+        let size = self.grid.size;
         if slot >= size.slots {
             return Err(Refusal::NoSuch);
         }
-        self.table.change(slot, SlotEvent::Opened, size.stripes)?;
+        self.grid
+            .table
+            .change(slot, SlotEvent::Opened, size.stripes)?;
         Ok(Order { slot })
     }
 
     // Rebuilds one more stripe of the order's slot, and answers the new frontier. Where the member refuses it, the frontier stays.
     pub fn step(&mut self, order: &Order) -> Result<usize, Refusal>
-        ensures answered { Roomy (shape (means C.Code.coding L.Layout.slot L.Layout.column B.Bank.state B.Bank.meaning) self.old) (members (means C.Code.coding L.Layout.slot L.Layout.column B.Bank.state B.Bank.meaning) self.old) → outcome result ≡ step_outcome (shape (means C.Code.coding L.Layout.slot L.Layout.column B.Bank.state B.Bank.meaning) self.old) (members (means C.Code.coding L.Layout.slot L.Layout.column B.Bank.state B.Bank.meaning) self.old) (records (means C.Code.coding L.Layout.slot L.Layout.column B.Bank.state B.Bank.meaning) self.old) order.now.slot }
-        ensures fault { Roomy (shape (means C.Code.coding L.Layout.slot L.Layout.column B.Bank.state B.Bank.meaning) self.old) (members (means C.Code.coding L.Layout.slot L.Layout.column B.Bank.state B.Bank.meaning) self.old) → fault_of result ≡ step_fault (shape (means C.Code.coding L.Layout.slot L.Layout.column B.Bank.state B.Bank.meaning) self.old) (members (means C.Code.coding L.Layout.slot L.Layout.column B.Bank.state B.Bank.meaning) self.old) (records (means C.Code.coding L.Layout.slot L.Layout.column B.Bank.state B.Bank.meaning) self.old) order.now.slot }
-        ensures changes { Roomy (shape (means C.Code.coding L.Layout.slot L.Layout.column B.Bank.state B.Bank.meaning) self.old) (members (means C.Code.coding L.Layout.slot L.Layout.column B.Bank.state B.Bank.meaning) self.old) → StepChanges (shape (means C.Code.coding L.Layout.slot L.Layout.column B.Bank.state B.Bank.meaning) self.old) (members (means C.Code.coding L.Layout.slot L.Layout.column B.Bank.state B.Bank.meaning) self.old) (records (means C.Code.coding L.Layout.slot L.Layout.column B.Bank.state B.Bank.meaning) self.old) order.now.slot (members (means C.Code.coding L.Layout.slot L.Layout.column B.Bank.state B.Bank.meaning) self.new) (records (means C.Code.coding L.Layout.slot L.Layout.column B.Bank.state B.Bank.meaning) self.new) }
+        ensures answered { Roomy (shape C.Code L.Layout self.old) (members B.Bank self.old) → outcome result ≡ step_outcome (shape C.Code L.Layout self.old) (members B.Bank self.old) (records self.old) order.now.slot }
+        ensures fault { Roomy (shape C.Code L.Layout self.old) (members B.Bank self.old) → fault_of result ≡ step_fault (shape C.Code L.Layout self.old) (members B.Bank self.old) (records self.old) order.now.slot }
+        ensures changes { Roomy (shape C.Code L.Layout self.old) (members B.Bank self.old) → StepChanges (shape C.Code L.Layout self.old) (members B.Bank self.old) (records self.old) order.now.slot (members B.Bank self.new) (records self.new) }
         ensures kept { PartsKept self.old self.new }
-        ensures right { Roomy (shape (means C.Code.coding L.Layout.slot L.Layout.column B.Bank.state B.Bank.meaning) self.old) (members (means C.Code.coding L.Layout.slot L.Layout.column B.Bank.state B.Bank.meaning) self.old) → FitsOver (shape (means C.Code.coding L.Layout.slot L.Layout.column B.Bank.state B.Bank.meaning) self.old) (members (means C.Code.coding L.Layout.slot L.Layout.column B.Bank.state B.Bank.meaning) self.old) (records (means C.Code.coding L.Layout.slot L.Layout.column B.Bank.state B.Bank.meaning) self.old) (members (means C.Code.coding L.Layout.slot L.Layout.column B.Bank.state B.Bank.meaning) self.new) (records (means C.Code.coding L.Layout.slot L.Layout.column B.Bank.state B.Bank.meaning) self.new) × CountsKept (members (means C.Code.coding L.Layout.slot L.Layout.column B.Bank.state B.Bank.meaning) self.old) (members (means C.Code.coding L.Layout.slot L.Layout.column B.Bank.state B.Bank.meaning) self.new) }
-        ensures loss { open_here (shape (means C.Code.coding L.Layout.slot L.Layout.column B.Bank.state B.Bank.meaning) self.old) (records (means C.Code.coding L.Layout.slot L.Layout.column B.Bank.state B.Bank.meaning) self.old) order.now.slot ≡ true → ((records (means C.Code.coding L.Layout.slot L.Layout.column B.Bank.state B.Bank.meaning) self.old) order.now.slot).frontier < (shape (means C.Code.coding L.Layout.slot L.Layout.column B.Bank.state B.Bank.meaning) self.old).stripes → TellsLoss (shape (means C.Code.coding L.Layout.slot L.Layout.column B.Bank.state B.Bank.meaning) self.old) (members (means C.Code.coding L.Layout.slot L.Layout.column B.Bank.state B.Bank.meaning) self.old) (frontiers (records (means C.Code.coding L.Layout.slot L.Layout.column B.Bank.state B.Bank.meaning) self.old)) ((records (means C.Code.coding L.Layout.slot L.Layout.column B.Bank.state B.Bank.meaning) self.old) order.now.slot).frontier (step_outcome (shape (means C.Code.coding L.Layout.slot L.Layout.column B.Bank.state B.Bank.meaning) self.old) (members (means C.Code.coding L.Layout.slot L.Layout.column B.Bank.state B.Bank.meaning) self.old) (records (means C.Code.coding L.Layout.slot L.Layout.column B.Bank.state B.Bank.meaning) self.old) order.now.slot) }
+        ensures right { Roomy (shape C.Code L.Layout self.old) (members B.Bank self.old) → FitsOver (shape C.Code L.Layout self.old) (members B.Bank self.old) (records self.old) (members B.Bank self.new) (records self.new) × CountsKept (members B.Bank self.old) (members B.Bank self.new) }
+        ensures loss { open_here (shape C.Code L.Layout self.old) (records self.old) order.now.slot ≡ true → ((records self.old) order.now.slot).frontier < (shape C.Code L.Layout self.old).stripes → TellsLoss (shape C.Code L.Layout self.old) (members B.Bank self.old) (frontiers (records self.old)) ((records self.old) order.now.slot).frontier (step_outcome (shape C.Code L.Layout self.old) (members B.Bank self.old) (records self.old) order.now.slot) }
     {
-        let size = size_with(&self.code, self.size);
-        let Some(stripe) = self.table.open_frontier(size.slots, order.slot) else {
+        let size = self.grid.size;
+        let Some(stripe) = self.grid.table.open_frontier(size.slots, order.slot) else {
             return Err(Refusal::NotOpen);
         };
         if stripe >= size.stripes {
             return Err(Refusal::Whole);
         }
-        rebuild_column(
-            &self.code,
-            &self.layout,
-            size,
-            &self.table,
-            &mut self.bank,
-            order.slot,
-            stripe,
-        )?;
-        self.table
+        self.grid
+            .rebuild_column(&mut self.bank, order.slot, stripe)?;
+        self.grid
+            .table
             .change(order.slot, SlotEvent::Stepped, size.stripes)
     }
 
     // Ends the rebuild of the order's slot, and answers how far it came. The order is used up, whatever is answered.
     pub fn close(&mut self, order: Order) -> Result<usize, Refusal>
-        ensures answered { outcome result ≡ close_outcome (shape (means C.Code.coding L.Layout.slot L.Layout.column B.Bank.state B.Bank.meaning) self.old) (records (means C.Code.coding L.Layout.slot L.Layout.column B.Bank.state B.Bank.meaning) self.old) order.slot }
+        ensures answered { outcome result ≡ close_outcome (shape C.Code L.Layout self.old) (records self.old) order.slot }
         ensures bank { self.new.bank ≡ self.old.bank }
-        ensures records { (records (means C.Code.coding L.Layout.slot L.Layout.column B.Bank.state B.Bank.meaning) self.new) ≡ event_records (shape (means C.Code.coding L.Layout.slot L.Layout.column B.Bank.state B.Bank.meaning) self.old) (records (means C.Code.coding L.Layout.slot L.Layout.column B.Bank.state B.Bank.meaning) self.old) order.slot Closed }
+        ensures records { records self.new ≡ event_records (shape C.Code L.Layout self.old) (records self.old) order.slot Closed }
         ensures kept { PartsKept self.old self.new }
-        ensures right { FitsOver (shape (means C.Code.coding L.Layout.slot L.Layout.column B.Bank.state B.Bank.meaning) self.old) (members (means C.Code.coding L.Layout.slot L.Layout.column B.Bank.state B.Bank.meaning) self.old) (records (means C.Code.coding L.Layout.slot L.Layout.column B.Bank.state B.Bank.meaning) self.old) (members (means C.Code.coding L.Layout.slot L.Layout.column B.Bank.state B.Bank.meaning) self.old) (records (means C.Code.coding L.Layout.slot L.Layout.column B.Bank.state B.Bank.meaning) self.new) }
+        ensures right { FitsOver (shape C.Code L.Layout self.old) (members B.Bank self.old) (records self.old) (members B.Bank self.old) (records self.new) }
     {
-        let size = size_with(&self.code, self.size);
+        let size = self.grid.size;
         let Order { slot } = order;
         if slot >= size.slots {
             return Err(Refusal::NotOpen);
         }
-        self.table.change(slot, SlotEvent::Closed, size.stripes)
+        self.grid
+            .table
+            .change(slot, SlotEvent::Closed, size.stripes)
     }
 }

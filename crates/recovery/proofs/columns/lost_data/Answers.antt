@@ -10,7 +10,7 @@ pub loop-t-init : goal.loop-t-init
 loop-t-init c blocks = sym (ap noted (gaps_none _))
 
 pub loop-t-preserved : goal.loop-t-preserved
-loop-t-preserved c blocks = lost_next blocks c.args.present.now c.loop-t.t _ _ (c.loop-t.invariant blocks) c.note-lost.ensures.value
+loop-t-preserved c blocks = lost_next blocks c.args.present.now c.loop-t.t _ _ (c.loop-t.invariant blocks) c.note.ensures.after
 
 pub returns : goal.returns
 returns c =

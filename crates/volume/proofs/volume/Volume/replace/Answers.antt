@@ -6,30 +6,24 @@ use Rattle.contents.specs.declared.SlotEvent.TheVariants.{Replaced}
 use Rattle.contents.specs.Refusals.{Told, plain, outcome, answering}
 use Rattle.contents.specs.Rebuilds.{ReplaceChanges}
 use Rattle.contents.proofs.Rebuilding.{replaces}
-use Rattle.volume.specs.declared.size.Size.{Size}
-use Rattle.volume.specs.Sizes.{Fitting, size_of, shape_at}
-use Rattle.volume.specs.Slots.{members_of, records_of}
-use Rattle.volume.proofs.Answering.{valid_at}
+use Rattle.volume.specs.Slots.{members_in, records_of}
+use Rattle.volume.specs.Volumes.{shape, members, records}
+use Rattle.volume.proofs.Answering.{grid_valid}
 use Rattle.volume.proofs.Rebuilding.{EventDone, event_done, answering_ok, answering_err, renewed_moved}
 use Rattle.volume.proofs.volume.Volume.replace.Goals as goal
 
 pub returns-in_err-change : goal.returns-in_err-change
 returns-in_err-change g c =
     let v = c.args.self.now in
-    let C = g.C.Code.coding v.code in
-    let slot = g.L.Layout.slot v.layout in
-    let column = g.L.Layout.column v.layout in
-    let M = members_of (g.B.Bank.meaning (g.B.Bank.state v.bank)) in
-    let R = records_of v.table.rows in
-    let z = c.size_with-size.result in
-    let e = c.size_with-size.ensures.value in
-    let V = shape_at C slot column (size_of C.limit v.size) in
-    let valid = valid_at C (g.met.C.Code.lawful v.code) slot column (g.met.L.Layout.lawful v.layout) _ (subst (Fitting C.limit) e c.size_with-size.ensures.fitting) in
+    let M = members g.B.Bank v in
+    let R = records v in
+    let z = v.grid.size in
+    let V = shape g.C.Code g.L.Layout v in
+    let valid = grid_valid g.C.Code g.L.Layout g.met.C.Code.lawful g.met.L.Layout.lawful v.grid in
     let i = c.args.slot in
     let Q = records_of c.change.new.self.rows in
     let p = err_from_is_err_and c.from_residual.result c.from_residual.ensures.1 in
-    let d = subst (λ (y : Size). EventDone (shape_at C slot column y) R i Replaced (plain 2) Q (outcome c.change.result)) e
-    (event_done (shape_at C slot column z) R i Replaced (plain 2) Q (outcome c.change.result) (omega arith) c.change.ensures.records c.change.ensures.answered) in
+    let d = event_done V R i Replaced (plain 2) Q (outcome c.change.result) (omega arith) c.change.ensures.records c.change.ensures.answered in
     let a = sym (ap outcome c.in_err-change.was) ∙ d.answered in
     let w : ReplaceChanges V M R i M Q = record {
       taken = λ t. absurd (false≢true (ap (λ (r : Result ℕ Told). is_ok (answering tt r)) a ∙ t));
@@ -47,20 +41,15 @@ returns-in_err-change g c =
 pub returns : goal.returns
 returns g c =
     let v = c.args.self.now in
-    let C = g.C.Code.coding v.code in
-    let slot = g.L.Layout.slot v.layout in
-    let column = g.L.Layout.column v.layout in
-    let M = members_of (g.B.Bank.meaning (g.B.Bank.state v.bank)) in
-    let R = records_of v.table.rows in
-    let z = c.size_with-size.result in
-    let e = c.size_with-size.ensures.value in
-    let V = shape_at C slot column (size_of C.limit v.size) in
-    let valid = valid_at C (g.met.C.Code.lawful v.code) slot column (g.met.L.Layout.lawful v.layout) _ (subst (Fitting C.limit) e c.size_with-size.ensures.fitting) in
+    let M = members g.B.Bank v in
+    let R = records v in
+    let z = v.grid.size in
+    let V = shape g.C.Code g.L.Layout v in
+    let valid = grid_valid g.C.Code g.L.Layout g.met.C.Code.lawful g.met.L.Layout.lawful v.grid in
     let i = c.args.slot in
     let Q = records_of c.change.new.self.rows in
-    let d = subst (λ (y : Size). EventDone (shape_at C slot column y) R i Replaced (plain 2) Q (outcome c.change.result)) e
-    (event_done (shape_at C slot column z) R i Replaced (plain 2) Q (outcome c.change.result) (omega arith) c.change.ensures.records c.change.ensures.answered) in
-    let N = members_of (g.B.Bank.meaning (g.B.Bank.state c.fresh.new.self)) in
+    let d = event_done V R i Replaced (plain 2) Q (outcome c.change.result) (omega arith) c.change.ensures.records c.change.ensures.answered in
+    let N = members_in g.B.Bank c.fresh.new.self in
     let a = sym (ap outcome c.in_ok-change.was) ∙ d.answered in
     let w : ReplaceChanges V M R i N Q = record {
       taken = λ _. renewed_moved _ _ i c.fresh.ensures.after;

@@ -11,44 +11,36 @@ use Rattle.member.specs.Meaning.{write_refusal}
 use Rattle.member.specs.Changes.{Written}
 use Rattle.code.specs.Blocks.{block_size}
 use Rattle.contents.proofs.Rebuilding.{rebuilds, rebuild_losses}
-use Rattle.volume.specs.declared.size.Size.{Size}
-use Rattle.volume.specs.Sizes.{Fitting, size_of, shape_at}
-use Rattle.volume.specs.Slots.{members_of, records_of}
-use Rattle.volume.proofs.Answering.{valid_at}
+use Rattle.volume.specs.Slots.{members_in, records_of}
+use Rattle.volume.specs.Volumes.{shape, members, records}
+use Rattle.volume.proofs.Answering.{grid_valid}
 use Rattle.volume.proofs.Rebuilding.{StepDone, step_failed, step_made, fault_is, raised_faultless, open_some, column_answer}
 use Rattle.volume.proofs.volume.Volume.step.Goals as goal
 
 pub returns-in_err-rebuild_column : goal.returns-in_err-rebuild_column
 returns-in_err-rebuild_column g c =
     let v = c.args.self.now in
-    let C = g.C.Code.coding v.code in
-    let slot = g.L.Layout.slot v.layout in
-    let column = g.L.Layout.column v.layout in
-    let M = members_of (g.B.Bank.meaning (g.B.Bank.state v.bank)) in
-    let R = records_of v.table.rows in
-    let z = c.size_with-size.result in
-    let e = c.size_with-size.ensures.value in
-    let V = shape_at C slot column (size_of C.limit v.size) in
-    let valid = valid_at C (g.met.C.Code.lawful v.code) slot column (g.met.L.Layout.lawful v.layout) _ (subst (Fitting C.limit) e c.size_with-size.ensures.fitting) in
+    let M = members g.B.Bank v in
+    let R = records v in
+    let z = v.grid.size in
+    let V = shape g.C.Code g.L.Layout v in
+    let valid = grid_valid g.C.Code g.L.Layout g.met.C.Code.lawful g.met.L.Layout.lawful v.grid in
     let i = c.args.order.now.slot in
-    let N = members_of (g.B.Bank.meaning (g.B.Bank.state c.rebuild_column.new.bank)) in
-    let W = shape_at C slot column z in
+    let N = members_in g.B.Bank c.rebuild_column.new.bank in
     let F = frontiers R in
     let here = open_some (ltb i z.slots && is_open (R i).state) (R i).frontier c.in-Some.stripe c.in-Some.ensures.value in
     let at = here.1 in
     let left : (R i).frontier < z.stripes = omega (arith, c.if-stripe-size.false) in
-    let moved = subst (λ (x : ℕ). lossy W M F x ≡ false → Moved (λ m n. Written m x (recovered_at W M F x (W.back x i)) n) i M N) (sym at) c.rebuild_column.ensures.taken in
-    let same = subst (λ (x : ℕ). lossy W M F x ≡ true → N ≡ M) (sym at) c.rebuild_column.ensures.refused in
+    let moved = subst (λ (x : ℕ). lossy V M F x ≡ false → Moved (λ m n. Written m x (recovered_at V M F x (V.back x i)) n) i M N) (sym at) c.rebuild_column.ensures.rebuilt.taken in
+    let same = subst (λ (x : ℕ). lossy V M F x ≡ true → N ≡ M) (sym at) c.rebuild_column.ensures.rebuilt.refused in
     let p = err_from_is_err_and c.from_residual.result c.from_residual.ensures.1 in
     let t = told c.in_err-rebuild_column.field-0.0 in
     let done : Roomy V M → StepDone V M R i N R (Err t) = λ room.
-    subst (λ (y : Size). StepDone (shape_at C slot column y) M R i N R (Err t)) e
-    (step_failed W M R i here.0 left N moved same t
-    (sym (ap outcome c.in_err-rebuild_column.was) ∙ subst (λ (x : ℕ). outcome c.rebuild_column.result ≡ cond (lossy W M F x) (Err (with_loss 4 (loss_at W M F x))) (column_answer (write_refusal (M i) x block_size) x)) (sym at) (c.rebuild_column.ensures.answered (subst (λ (y : Size). Roomy (shape_at C slot column y) M) (sym e) room)))) in
+    (step_failed V M R i here.0 left N moved same t
+    (sym (ap outcome c.in_err-rebuild_column.was) ∙ subst (λ (x : ℕ). outcome c.rebuild_column.result ≡ cond (lossy V M F x) (Err (with_loss 4 (loss_at V M F x))) (column_answer (write_refusal (M i) x block_size) x)) (sym at) (c.rebuild_column.ensures.rebuilt.answered (room)))) in
     let carried : Roomy V M → fault_of c.rebuild_column.result ≡ step_fault V M R i = λ room.
-    subst (λ (y : Size). fault_of c.rebuild_column.result ≡ step_fault (shape_at C slot column y) M R i) e
-    (subst (λ (x : ℕ). fault_of c.rebuild_column.result ≡ cond (lossy W M F x) None (write_refusal (M i) x block_size)) (sym at) (c.rebuild_column.ensures.fault (subst (λ (y : Size). Roomy (shape_at C slot column y) M) (sym e) room))
-    ∙ fault_is W M R i here.0 left N moved same) in
+    (subst (λ (x : ℕ). fault_of c.rebuild_column.result ≡ cond (lossy V M F x) None (write_refusal (M i) x block_size)) (sym at) (c.rebuild_column.ensures.rebuilt.fault (room))
+    ∙ fault_is V M R i here.0 left N moved same) in
     record {
       fault = λ room. ap (fault_of {U = ℕ}) p.1 ∙ ap (λ (x : Refusal). fault_of {U = Unit} (Err x)) p.2 ∙ sym (ap (fault_of {U = Unit}) c.in_err-rebuild_column.was) ∙ carried room;
       answered = λ room. ap outcome p.1 ∙ ap (λ (x : Refusal). outcome (Err x)) p.2 ∙ (done room).answered;
@@ -61,36 +53,29 @@ returns-in_err-rebuild_column g c =
 pub returns : goal.returns
 returns g c =
     let v = c.args.self.now in
-    let C = g.C.Code.coding v.code in
-    let slot = g.L.Layout.slot v.layout in
-    let column = g.L.Layout.column v.layout in
-    let M = members_of (g.B.Bank.meaning (g.B.Bank.state v.bank)) in
-    let R = records_of v.table.rows in
-    let z = c.size_with-size.result in
-    let e = c.size_with-size.ensures.value in
-    let V = shape_at C slot column (size_of C.limit v.size) in
-    let valid = valid_at C (g.met.C.Code.lawful v.code) slot column (g.met.L.Layout.lawful v.layout) _ (subst (Fitting C.limit) e c.size_with-size.ensures.fitting) in
+    let M = members g.B.Bank v in
+    let R = records v in
+    let z = v.grid.size in
+    let V = shape g.C.Code g.L.Layout v in
+    let valid = grid_valid g.C.Code g.L.Layout g.met.C.Code.lawful g.met.L.Layout.lawful v.grid in
     let i = c.args.order.now.slot in
-    let N = members_of (g.B.Bank.meaning (g.B.Bank.state c.rebuild_column.new.bank)) in
-    let W = shape_at C slot column z in
+    let N = members_in g.B.Bank c.rebuild_column.new.bank in
     let F = frontiers R in
     let here = open_some (ltb i z.slots && is_open (R i).state) (R i).frontier c.in-Some.stripe c.in-Some.ensures.value in
     let at = here.1 in
     let left : (R i).frontier < z.stripes = omega (arith, c.if-stripe-size.false) in
-    let moved = subst (λ (x : ℕ). lossy W M F x ≡ false → Moved (λ m n. Written m x (recovered_at W M F x (W.back x i)) n) i M N) (sym at) c.rebuild_column.ensures.taken in
-    let same = subst (λ (x : ℕ). lossy W M F x ≡ true → N ≡ M) (sym at) c.rebuild_column.ensures.refused in
+    let moved = subst (λ (x : ℕ). lossy V M F x ≡ false → Moved (λ m n. Written m x (recovered_at V M F x (V.back x i)) n) i M N) (sym at) c.rebuild_column.ensures.rebuilt.taken in
+    let same = subst (λ (x : ℕ). lossy V M F x ≡ true → N ≡ M) (sym at) c.rebuild_column.ensures.rebuilt.refused in
     let Q = records_of c.change.new.self.rows in
     let done : Roomy V M → StepDone V M R i N Q (outcome c.change.result) = λ room.
-    subst (λ (y : Size). StepDone (shape_at C slot column y) M R i N Q (outcome c.change.result)) e
-    (step_made W M R i here.0 left N moved same
-    (sym (ap outcome c.in_ok-rebuild_column.was) ∙ subst (λ (x : ℕ). outcome c.rebuild_column.result ≡ cond (lossy W M F x) (Err (with_loss 4 (loss_at W M F x))) (column_answer (write_refusal (M i) x block_size) x)) (sym at) (c.rebuild_column.ensures.answered (subst (λ (y : Size). Roomy (shape_at C slot column y) M) (sym e) room)))
+    (step_made V M R i here.0 left N moved same
+    (sym (ap outcome c.in_ok-rebuild_column.was) ∙ subst (λ (x : ℕ). outcome c.rebuild_column.result ≡ cond (lossy V M F x) (Err (with_loss 4 (loss_at V M F x))) (column_answer (write_refusal (M i) x block_size) x)) (sym at) (c.rebuild_column.ensures.rebuilt.answered (room)))
     Q (outcome c.change.result) c.change.ensures.records c.change.ensures.answered) in
     let carried : Roomy V M → fault_of c.rebuild_column.result ≡ step_fault V M R i = λ room.
-    subst (λ (y : Size). fault_of c.rebuild_column.result ≡ step_fault (shape_at C slot column y) M R i) e
-    (subst (λ (x : ℕ). fault_of c.rebuild_column.result ≡ cond (lossy W M F x) None (write_refusal (M i) x block_size)) (sym at) (c.rebuild_column.ensures.fault (subst (λ (y : Size). Roomy (shape_at C slot column y) M) (sym e) room))
-    ∙ fault_is W M R i here.0 left N moved same) in
+    (subst (λ (x : ℕ). fault_of c.rebuild_column.result ≡ cond (lossy V M F x) None (write_refusal (M i) x block_size)) (sym at) (c.rebuild_column.ensures.rebuilt.fault (room))
+    ∙ fault_is V M R i here.0 left N moved same) in
     record {
-      fault = λ room. raised_faultless W M R i here.0 left N moved same c.change.result c.change.ensures.answered ∙ sym (ap (fault_of {U = Unit}) c.in_ok-rebuild_column.was) ∙ carried room;
+      fault = λ room. raised_faultless V M R i here.0 left N moved same c.change.result c.change.ensures.answered ∙ sym (ap (fault_of {U = Unit}) c.in_ok-rebuild_column.was) ∙ carried room;
       answered = λ room. (done room).answered;
       changes = λ room. (done room).changes;
       kept = record { code = refl; layout = refl; size = refl };

@@ -1,17 +1,11 @@
-use Rattle.std.proofs.Common.{◌≡◌, replicate, sym, refl, ap, ◌∙◌, subst, arith}
-use Rattle.code.specs.Blocks.{zeros}
-use Rattle.member.specs.Changes.{Written}
+use Rattle.std.proofs.Common.{◌≡◌, sym, refl, ap, ◌∙◌, subst, arith}
 use Rattle.bank.specs.Slots.{told}
-use Rattle.contents.specs.Changes.{Steps, Moved}
 use Rattle.contents.specs.Shapes.{Shape, Valid, Roomy, formed}
 use Rattle.contents.proofs.Forming.{forms}
 use Rattle.contents.proofs.Keeping.{formats}
-use Rattle.volume.specs.declared.size.Size.{Size}
-use Rattle.volume.specs.Sizes.{size_of, shape_at}
-use Rattle.contents.specs.Records.{idle_at}
+use Rattle.volume.specs.Sizes.{shape_at}
 use Rattle.volume.specs.Slots.{members_of, frontier_of}
-use Rattle.volume.specs.Turns.{in_turn}
-use Rattle.volume.proofs.Formatting.{parts_stay, parts_form}
+use Rattle.volume.proofs.Formatting.{parts_form}
 use Rattle.volume.proofs.volume.blank.Blank.format.Goals as goal
 
 pub returns : goal.returns
@@ -26,20 +20,19 @@ returns g c =
     let N = members_of (g.B.Bank.meaning (g.B.Bank.state c.zero_stripes.new.bank)) in
     let z = c.parts_size-size.result in
     let e = c.parts_size-size.ensures.value in
-    let stay : size_of C.limit z ≡ z = ap (size_of C.limit) e ∙ parts_stay C.limit n M ∙ sym e in
-    let V = shape_at C slot column (size_of C.limit z) in
-    let made : V ≡ formed C slot column n M = ap (shape_at C slot column) (stay ∙ e) ∙ parts_form C slot column n M in
+    let V = shape_at C slot column z in
+    let made : V ≡ formed C slot column n M = ap (shape_at C slot column) e ∙ parts_form C slot column n M in
     let good = forms C (g.met.C.Code.lawful b.code) slot column (g.met.L.Layout.lawful b.layout) n M in
     let valid : Valid V = subst Valid (sym made) good.0 in
     let room : Roomy V M = subst (λ (W : Shape). Roomy W M) (sym made) good.1 in
-    let steps = subst (λ (x : Size). Steps x.stripes (λ s. Steps x.slots (λ i. Moved (λ p q. Written p s zeros q) i)) M N) (sym stay) c.zero_stripes.ensures.zeroed in
+    let steps = c.zero_stripes.ensures.zeroed in
     let done = formats V valid M (frontier_of c.idle.result.rows) room N steps in
     record {
       code = refl;
       layout = refl;
       shape = made;
-      table = c.idle.ensures.rows ∙ ap (λ (x : Size). replicate 18 (idle_at x.stripes)) (sym stay);
-      exact = c.zero_stripes.ensures.exact ∙ ap (λ (x : Size). in_turn (λ t u. in_turn (λ y i. g.B.Bank.wrote y i u zeros) x.slots t) x.stripes (g.B.Bank.state b.bank)) (sym stay);
+      table = c.idle.ensures.rows;
+      exact = c.zero_stripes.ensures.exact;
       changes = steps;
       fits = done.0;
       counts = done.1;

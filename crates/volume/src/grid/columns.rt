@@ -1,0 +1,123 @@
+// The columns of one stripe: which are missing, and what the members hold of them.
+ghost use Rattle.std.specs.Prelude.{◌≡◌, ◌*◌, length, is_some};
+ghost use Rattle.code.specs.Blocks.{block_size};
+ghost use Rattle.parity.specs.Ways.{or_else};
+ghost use Rattle.contents.specs.Changes.{Moved, Put, due};
+ghost use Rattle.volume.specs.Grids.{width, grid_frontiers, columns_on, loss_on};
+ghost use Rattle.volume.specs.Masks.{Room, with_status};
+ghost use Rattle.volume.specs.Slots.{slots_in, members_in, Surveyed};
+
+use crate::grid::Grid;
+use crate::members::status_of;
+use crate::survey::Survey;
+use bank::Bank;
+use code::Code;
+use contents::{Loss, Status};
+use layout::Layout;
+use recovery::loss::Lost;
+
+// The loss with a slot's bit in the mask of its status.
+fn with_status(loss: Loss, how: Status, bit: u32) -> Loss
+    requires room { Room loss bit }
+    ensures value { result ≡ with_status loss how bit }
+{
+    match how {
+        Status::Current => loss,
+        Status::Gone => Loss {
+            gone: loss.gone + bit,
+            ..loss
+        },
+        Status::Behind => Loss {
+            behind: loss.behind + bit,
+            ..loss
+        },
+        Status::Unreadable => Loss {
+            unreadable: loss.unreadable + bit,
+            ..loss
+        },
+    }
+}
+
+impl<C: Code, L> Grid<C, L> {
+    // How many data columns a stripe has.
+    pub fn width(&self) -> usize
+        ensures value { result ≡ width self.now }
+    {
+        self.size.slots.saturating_sub(2)
+    }
+
+    // How many blocks there are.
+    pub fn blocks(&self) -> usize
+        ensures value { result ≡ self.now.size.stripes * width self.now }
+    {
+        self.size.stripes * self.width()
+    }
+
+    // What is lost of stripe `s`, slot by slot; asked only where a call is refused for it.
+    pub fn loss<B: Bank>(&self, bank: &B, s: usize) -> Loss
+        ensures value { result ≡ loss_on self.now (slots_in B.Bank bank.now) s }
+    {
+        let mut loss = Loss {
+            stripe: s,
+            gone: 0,
+            behind: 0,
+            unreadable: 0,
+        };
+        for slot in 0..self.size.slots {
+            loss = with_status(loss, status_of(&self.table, bank, s, slot), 1 << slot);
+        }
+        loss
+    }
+}
+
+impl<C: Code, L: Layout> Grid<C, L> {
+    // Whether column `t` of stripe `s` is current.
+    pub fn has<B: Bank>(&self, bank: &B, s: usize, t: usize) -> bool
+        ensures value { result ≡ is_some (columns_on L.Layout self.now (slots_in B.Bank bank.now) s t) }
+    {
+        let slot = self.layout.slot_of(self.size.slots, s, t);
+        status_of(&self.table, bank, s, slot) == Status::Current
+    }
+
+    // What is missing of stripe `s`.
+    pub fn survey<B: Bank>(&self, bank: &B, s: usize) -> Survey
+        ensures value { Surveyed (columns_on L.Layout self.now (slots_in B.Bank bank.now) s) (width self.now) result }
+    {
+        let k = self.width();
+        let mut lost = Lost::Nothing;
+        let mut missing = 0;
+        for t in 0..k {
+            let here = self.has(bank, s, t);
+            lost.note(t, here);
+            missing += usize::from(!here);
+        }
+        let p = self.has(bank, s, k);
+        let q = self.has(bank, s, k + 1);
+        missing += usize::from(!p) + usize::from(!q);
+        Survey { lost, p, missing }
+    }
+
+    // Reads column `t` of stripe `s` into a buffer, if it is current.
+    pub fn load<B: Bank>(&self, bank: &mut B, s: usize, t: usize, into: &mut [u8]) -> bool
+        requires sized { length into.old ≡ block_size }
+        ensures same { slots_in B.Bank bank.new ≡ slots_in B.Bank bank.old }
+        ensures current { result ≡ is_some (columns_on L.Layout self.now (slots_in B.Bank bank.old) s t) }
+        ensures after { into.new ≡ or_else (columns_on L.Layout self.now (slots_in B.Bank bank.old) s t) into.old }
+    {
+        let slot = self.layout.slot_of(self.size.slots, s, t);
+        if !self.table.has(slot, s) {
+            return false;
+        }
+        bank.read(slot, s, into).is_ok()
+    }
+
+    // Writes bytes to column `t` of stripe `s`, if the stripe is below the frontier of its slot; what the member refuses is left.
+    pub fn store<B: Bank>(&self, bank: &mut B, s: usize, t: usize, bytes: &[u8])
+        ensures stored { Moved (Put (due (members_in B.Bank bank.old) (grid_frontiers self.now) s (L.Layout.slot self.now.layout self.now.size.slots s t)) s bytes.now) (L.Layout.slot self.now.layout self.now.size.slots s t) (members_in B.Bank bank.old) (members_in B.Bank bank.new) }
+    {
+        let slot = self.layout.slot_of(self.size.slots, s, t);
+        if self.table.has(slot, s) {
+            let _ = bank.write(slot, s, bytes);
+        }
+    }
+}
