@@ -1,6 +1,8 @@
 -- What the calls and answers of a run tell of its volume.
 use Rattle.std.specs.Prelude.{◌≡◌, ℕ, Bool, true, false, cond, not, List, [], ◌∷◌, ◌++◌, map, reverse, length, vec_items, nat_lt, slice_index_or, Ok, Err, Result}
 use Rattle.std.specs.List.{remove}
+use Rattle.bank.specs.declared.Bank.{Ghosts as Bank}
+use Rattle.code.specs.declared.Code.{Ghosts as Code}
 use Rattle.contents.specs.Refusals.{told}
 use Rattle.contents.specs.Shapes.{Shape}
 use Rattle.history.specs.Calls as calls
@@ -10,7 +12,7 @@ use Rattle.history.specs.Calls.Answer.{done, bytes, number, counts, order, refus
 use Rattle.history.specs.History.{Event, Kept}
 use Rattle.volume.specs.declared.volume.Volume.{Volume}
 use Rattle.volume.specs.declared.volume.rebuilds.Order.{Order}
-use Rattle.volume.specs.Volumes.{Means, members, records}
+use Rattle.volume.specs.Volumes.{members, records}
 use Rattle.runs.specs.declared.Call.{Call}
 use Rattle.runs.specs.declared.Call.TheVariants.{Tick, Read, Write, Scrub, Replace, Open, Step, Close, Margin}
 use Rattle.runs.specs.declared.Answer as answer
@@ -20,8 +22,8 @@ use Rattle.runs.specs.declared.Declined.{Declined}
 use Rattle.runs.specs.declared.Declined.TheVariants.{Refused, NoOrder}
 
 -- what of a volume changes
-abbrev pub state : {C L B : Type 0} → Means C L B → Volume C L B → State
-state m v = record { members = members m v; records = records m v }
+abbrev pub state : {C L B : Type 0} {K : Code C} → Bank B → Volume C L B K → State
+state B v = record { members = members B v; records = records v }
 
 -- the slot that the order in place k is for
 abbrev pub slot_at : List Order → ℕ → ℕ

@@ -7,9 +7,9 @@ ghost use Rattle.bank.specs.Slots.{told};
 ghost use Rattle.contents.specs.Records.{idle_at};
 ghost use Rattle.contents.specs.Changes.{FormatChanges};
 ghost use Rattle.contents.specs.Shapes.{formed};
-ghost use Rattle.volume.specs.Slots.{members_of};
+ghost use Rattle.volume.specs.Slots.{members_in, slots_in};
 ghost use Rattle.history.specs.History.{Kept};
-ghost use Rattle.volume.specs.Volumes.{means, shape, members, records};
+ghost use Rattle.volume.specs.Volumes.{shape, members, records};
 ghost use Rattle.runs.specs.declared.Call.TheVariants.{Read as Reading, Open as Opening, Step as Stepping, Close as Closing};
 ghost use Rattle.runs.specs.declared.Declined.TheVariants.{Refused};
 ghost use Rattle.runs.specs.Told.{state, event_of, orders_after, events, orders_left, lacks, is_none, AllMade, GoesOn, ClosesOn};
@@ -211,10 +211,10 @@ pub fn run<V: AnyVolume>(
 
 // Formats a volume: its history begins.
 pub fn format<C: Code, L: Layout, B: Bank>(blank: Blank<C, L, B>) -> Volume<C, L, B>
-    ensures shape { shape (means C.Code.coding L.Layout.slot L.Layout.column B.Bank.state B.Bank.meaning) result ≡ formed (C.Code.coding blank.code) (L.Layout.slot blank.layout) (L.Layout.column blank.layout) (told (B.Bank.meaning (B.Bank.state blank.bank)).size) (members_of (B.Bank.meaning (B.Bank.state blank.bank))) }
-    ensures changes { FormatChanges (shape (means C.Code.coding L.Layout.slot L.Layout.column B.Bank.state B.Bank.meaning) result) (members_of (B.Bank.meaning (B.Bank.state blank.bank))) (members (means C.Code.coding L.Layout.slot L.Layout.column B.Bank.state B.Bank.meaning) result) }
-    ensures idle { (i : ℕ) → i < (shape (means C.Code.coding L.Layout.slot L.Layout.column B.Bank.state B.Bank.meaning) result).slots → records (means C.Code.coding L.Layout.slot L.Layout.column B.Bank.state B.Bank.meaning) result i ≡ idle_at (shape (means C.Code.coding L.Layout.slot L.Layout.column B.Bank.state B.Bank.meaning) result).stripes }
-    ensures kept { Kept (shape (means C.Code.coding L.Layout.slot L.Layout.column B.Bank.state B.Bank.meaning) result) (state (means C.Code.coding L.Layout.slot L.Layout.column B.Bank.state B.Bank.meaning) result) [] (state (means C.Code.coding L.Layout.slot L.Layout.column B.Bank.state B.Bank.meaning) result) }
+    ensures shape { shape C.Code L.Layout result ≡ formed (C.Code.coding blank.code) (L.Layout.slot blank.layout) (L.Layout.column blank.layout) (told (slots_in B.Bank blank.bank).size) (members_in B.Bank blank.bank) }
+    ensures changes { FormatChanges (shape C.Code L.Layout result) (members_in B.Bank blank.bank) (members B.Bank result) }
+    ensures idle { (i : ℕ) → i < (shape C.Code L.Layout result).slots → records result i ≡ idle_at (shape C.Code L.Layout result).stripes }
+    ensures kept { Kept (shape C.Code L.Layout result) (state B.Bank result) [] (state B.Bank result) }
 {
     blank.format()
 }

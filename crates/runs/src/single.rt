@@ -9,7 +9,7 @@ ghost use Rattle.contents.specs.Shapes.{Shape, Roomy};
 ghost use Rattle.contents.specs.Answers.{read_leaves};
 ghost use Rattle.contents.specs.Rebuilds.{fault_of, step_fault};
 ghost use Rattle.volume.specs.Turns.{in_turn};
-ghost use Rattle.volume.specs.Volumes.{means, shape, ordered};
+ghost use Rattle.volume.specs.Volumes.{shape, ordered};
 ghost use Rattle.runs.specs.Told.{state, event, GoesOn};
 
 use bank::Bank;
@@ -99,9 +99,9 @@ pub trait AnyVolume {
 }
 
 impl<C: Code, L: Layout, B: Bank> AnyVolume for Volume<C, L, B> {
-    ghost shape = { shape (means C.Code.coding L.Layout.slot L.Layout.column B.Bank.state B.Bank.meaning) };
+    ghost shape = { shape C.Code L.Layout };
 
-    ghost state = { state (means C.Code.coding L.Layout.slot L.Layout.column B.Bank.state B.Bank.meaning) };
+    ghost state = { state B.Bank };
 
     ghost Banked = { B.Bank.State };
 
