@@ -3,7 +3,8 @@ ghost use Rattle.std.specs.Prelude.{◌≡◌};
 ghost use Rattle.script.specs.Acts.{act_of};
 ghost use Rattle.recorder.specs.declared.acts.ActRefusal.TheVariants.{Refused};
 ghost use Rattle.recorder.specs.Lines.{union_of};
-ghost use Rattle.recorder.specs.Acts.{ActsOn, StepsOn, told_line, told_stop};
+ghost use Rattle.recorder.specs.Acts.{StepsOn, told_line, told_stop};
+ghost use Rattle.recorder.specs.Doing.{DidAct};
 
 use code::BLOCK;
 use contents::{Loss, Refusal};
@@ -55,8 +56,7 @@ pub(crate) fn numbers(answer: Result<usize, ActRefusal>) -> (u8, usize)
 
 // A read: its value is the first byte.
 fn read<V: AnyVolume>(volume: &mut V, block: usize) -> Result<usize, ActRefusal>
-    ensures same { V.shape volume.new ≡ V.shape volume.old }
-    ensures acts { ActsOn (V.shape volume.old) (V.state volume.old) (Act.Read block) (told_line result) (V.state volume.new) }
+    ensures did { DidAct V.AnyVolume volume.old (Act.Read block) result volume.new }
 {
     let mut buffer = [0u8; BLOCK];
     volume.read(block, &mut buffer)?;
@@ -65,8 +65,7 @@ fn read<V: AnyVolume>(volume: &mut V, block: usize) -> Result<usize, ActRefusal>
 
 // A write of a block filled with a byte: its value is the number of columns missing after it.
 fn write<V: AnyVolume>(volume: &mut V, block: usize, byte: u8) -> Result<usize, ActRefusal>
-    ensures same { V.shape volume.new ≡ V.shape volume.old }
-    ensures acts { ActsOn (V.shape volume.old) (V.state volume.old) (Act.Write block byte) (told_line result) (V.state volume.new) }
+    ensures did { DidAct V.AnyVolume volume.old (Act.Write block byte) result volume.new }
 {
     Ok(volume.write(block, &[byte; BLOCK])?)
 }
@@ -88,8 +87,7 @@ fn steps<V: AnyVolume>(volume: &mut V, order: &Order, most: usize) -> Result<(),
 
 // A rebuild of a slot by at most so many steps: its value is the frontier that it came to.
 fn rebuild<V: AnyVolume>(volume: &mut V, slot: usize, most: usize) -> Result<usize, ActRefusal>
-    ensures same { V.shape volume.new ≡ V.shape volume.old }
-    ensures acts { ActsOn (V.shape volume.old) (V.state volume.old) (Act.Rebuild slot most) (told_line result) (V.state volume.new) }
+    ensures did { DidAct V.AnyVolume volume.old (Act.Rebuild slot most) result volume.new }
 {
     let order = volume.open(slot)?;
     let stepped = steps(volume, &order, most);
@@ -100,8 +98,7 @@ fn rebuild<V: AnyVolume>(volume: &mut V, slot: usize, most: usize) -> Result<usi
 
 // What an operation answers.
 pub(crate) fn act<V: AnyVolume>(volume: &mut V, operation: Operation) -> Result<usize, ActRefusal>
-    ensures same { V.shape volume.new ≡ V.shape volume.old }
-    ensures acts { ActsOn (V.shape volume.old) (V.state volume.old) (act_of operation) (told_line result) (V.state volume.new) }
+    ensures did { DidAct V.AnyVolume volume.old (act_of operation) result volume.new }
 {
     match Act::from(operation) {
         Act::Tick => {

@@ -2,7 +2,7 @@
 // volume's; none can be made up.
 #![tactic(auto)]
 
-ghost use Rattle.std.specs.Prelude.{◌≡◌, ℕ, ◌+◌, ◌<◌, ◌≤◌, false, List, [], length, IfOk, vec_len, vec_capacity, OnErr};
+ghost use Rattle.std.specs.Prelude.{◌≡◌, ℕ, ◌+◌, ◌<◌, ◌≤◌, List, [], length, IfOk, vec_len, vec_capacity, OnErr};
 ghost use Rattle.bank.specs.Slots.{told};
 ghost use Rattle.contents.specs.Records.{idle_at};
 ghost use Rattle.contents.specs.Changes.{FormatChanges};
@@ -12,7 +12,8 @@ ghost use Rattle.history.specs.History.{Kept};
 ghost use Rattle.volume.specs.Volumes.{shape, members, records};
 ghost use Rattle.runs.specs.declared.Call.TheVariants.{Read as Reading, Open as Opening, Step as Stepping, Close as Closing};
 ghost use Rattle.runs.specs.declared.Declined.TheVariants.{Refused};
-ghost use Rattle.runs.specs.Told.{state, event_of, orders_after, events, orders_left, lacks, is_none, AllMade, GoesOn, ClosesOn};
+ghost use Rattle.runs.specs.Obeying.{Obeyed};
+ghost use Rattle.runs.specs.Told.{state, orders_after, events, orders_left, AllMade, GoesOn, ClosesOn};
 
 use bank::Bank;
 use code::{BLOCK, Code};
@@ -53,7 +54,7 @@ pub enum Call {
 pub enum Answer {
     Done,
     // the bytes that a read handed out
-    Block([u8; 512]),
+    Block([u8; BLOCK]),
     // missing columns after a write, a frontier or a margin
     Number(usize),
     // columns that a scrub mended, that were refused, and that are absent
@@ -81,9 +82,7 @@ impl From<Refusal> for Declined {
 
 // Reads a block into a buffer of so many bytes. One that is not a block's is refused, whichever its length.
 fn read_into<V: AnyVolume>(volume: &mut V, block: usize, len: usize) -> Result<Answer, Declined>
-    ensures same { V.shape volume.new ≡ V.shape volume.old }
-    ensures goes { GoesOn (V.shape volume.old) (V.state volume.old) (event_of [] (Reading block len) result) (V.state volume.new) }
-    ensures made { is_none result ≡ false }
+    ensures obeyed { Obeyed V.AnyVolume volume.old [] (Reading block len) result volume.new }
 {
     let mut held = [0u8; BLOCK];
     if len != BLOCK {
@@ -101,9 +100,7 @@ fn open_slot<V: AnyVolume>(
     slot: usize,
 ) -> Result<Answer, Declined>
     requires room { vec_len orders.old < vec_capacity orders.old }
-    ensures same { V.shape volume.new ≡ V.shape volume.old }
-    ensures goes { GoesOn (V.shape volume.old) (V.state volume.old) (event_of orders.old.items (Opening slot) result) (V.state volume.new) }
-    ensures made { is_none result ≡ false }
+    ensures obeyed { Obeyed V.AnyVolume volume.old orders.old.items (Opening slot) result volume.new }
     ensures orders { orders.new.items ≡ orders_after orders.old.items (Opening slot) result }
     ensures len { vec_len orders.new ≤ vec_len orders.old + 1 }
     ensures capacity { vec_capacity orders.new ≡ vec_capacity orders.old }
@@ -120,9 +117,7 @@ fn step_by<V: AnyVolume>(
     orders: &Vec<Order>,
     place: usize,
 ) -> Result<Answer, Declined>
-    ensures same { V.shape volume.new ≡ V.shape volume.old }
-    ensures goes { GoesOn (V.shape volume.old) (V.state volume.old) (event_of orders.now.items (Stepping place) result) (V.state volume.new) }
-    ensures made { is_none result ≡ lacks orders.now.items (Stepping place) }
+    ensures obeyed { Obeyed V.AnyVolume volume.old orders.now.items (Stepping place) result volume.new }
 {
     let Some(order) = orders.get(place) else {
         return Err(Declined::NoOrder);
@@ -136,9 +131,7 @@ fn close_by<V: AnyVolume>(
     orders: &mut Vec<Order>,
     place: usize,
 ) -> Result<Answer, Declined>
-    ensures same { V.shape volume.new ≡ V.shape volume.old }
-    ensures goes { GoesOn (V.shape volume.old) (V.state volume.old) (event_of orders.old.items (Closing place) result) (V.state volume.new) }
-    ensures made { is_none result ≡ lacks orders.old.items (Closing place) }
+    ensures obeyed { Obeyed V.AnyVolume volume.old orders.old.items (Closing place) result volume.new }
     ensures orders { orders.new.items ≡ orders_after orders.old.items (Closing place) result }
     ensures len { vec_len orders.new ≤ vec_len orders.old + 1 }
     ensures capacity { vec_capacity orders.new ≡ vec_capacity orders.old }
@@ -156,9 +149,7 @@ fn obey<V: AnyVolume>(
     call: &Call,
 ) -> Result<Answer, Declined>
     requires room { vec_len orders.old < vec_capacity orders.old }
-    ensures same { V.shape volume.new ≡ V.shape volume.old }
-    ensures goes { GoesOn (V.shape volume.old) (V.state volume.old) (event_of orders.old.items call.now result) (V.state volume.new) }
-    ensures made { is_none result ≡ lacks orders.old.items call.now }
+    ensures obeyed { Obeyed V.AnyVolume volume.old orders.old.items call.now result volume.new }
     ensures orders { orders.new.items ≡ orders_after orders.old.items call.now result }
     ensures len { vec_len orders.new ≤ vec_len orders.old + 1 }
     ensures capacity { vec_capacity orders.new ≡ vec_capacity orders.old }

@@ -28,6 +28,7 @@ loop-call-preserved g c =
     let p = c.push_reserved.ensures.items in
     let lt : c.loop-call.call-index < length c.args.calls.now = c.loop-call-test.true in
     let x = c.obey-answer.ensures in
+    let y = x.obeyed in
     let call = c.call-item.result in
     let answer = c.obey-answer.result in
     let n = c.loop-call.call-index in
@@ -45,17 +46,17 @@ loop-call-preserved g c =
     let left : orders_left os (take (n + 1) cs) (vec_items c.push_reserved.new.self) ≡ orders_after (vec_items c.loop-call.orders) call answer =
     ap₂ (orders_left os) more p ∙ orders_push os (take n cs) rs call answer len ∙ ap (λ (l : List Order). orders_after l call answer) (sym i.6) in
     let goes : GoesOn V τ (event_of (vec_items c.loop-call.orders) call answer) ρ =
-    subst (λ (W : Shape). GoesOn W τ (event_of (vec_items c.loop-call.orders) call answer) ρ) i.4 x.goes in (
+    subst (λ (W : Shape). GoesOn W τ (event_of (vec_items c.loop-call.orders) call answer) ρ) i.4 y.goes in (
       omega (arith, c.push_reserved.ensures.len, i.0),
       ap length p ∙ length_push rs answer ∙ ap (λ (y : ℕ). y + 1) i.1,
       omega (arith, c.push_reserved.ensures.capacity, i.2),
       omega (arith, x.len, x.capacity, i.3),
-      x.same ∙ i.4,
+      y.same ∙ i.4,
       subst (λ (l : List Event). GoesOn V σ l ρ) (sym all) (goes_further V σ τ ρ _ _ i.5 goes),
       x.orders ∙ sym left,
       subst (λ (l : List Call). AllMade os l (vec_items c.push_reserved.new.self)) (sym more)
           (subst (λ (l : List (Result Answer Declined)). AllMade os (take n cs ++ call ∷ []) l) (sym p)
-          (all_made_push os (take n cs) rs call answer len i.7 (x.made ∙ ap (λ (l : List Order). lacks l call) i.6))),
+          (all_made_push os (take n cs) rs call answer len i.7 (y.made ∙ ap (λ (l : List Order). lacks l call) i.6))),
     )
 
 pub returns : goal.returns
