@@ -2,69 +2,50 @@
 // hand.
 #![tactic(auto)]
 
-use bank::Bank;
 use bank::chain::Link;
 use bank::empty::NoMembers;
-use code::Code;
 use diagonal::rdp::Rdp;
 use galois::Pq;
-use layout::{Layout, Rotating, Standing};
+use layout::{Rotating, Standing};
 use member::cell::Cell;
-use runs::{Answer, Call, close_all, format, run};
+use runs::single::AnyVolume;
+use runs::{Answer, Call, Declined, close_all, format, run};
 use shelf::Shelf;
 use std::alloc::{AllocError, Global};
-use volume::volume::Volume;
 use volume::volume::blank::Blank;
 use volume::volume::rebuilds::Order;
 
 type Cells = Link<Cell, Link<Cell, Link<Cell, Link<Cell, NoMembers>>>>;
 
-// Four cells: eight stripes of two data columns.
-fn cells() -> Cells {
+// A cell before others.
+fn cell_before<B>(rest: B) -> Link<Cell, B> {
     Link {
         first: Cell::new(),
-        rest: Link {
-            first: Cell::new(),
-            rest: Link {
-                first: Cell::new(),
-                rest: Link {
-                    first: Cell::new(),
-                    rest: NoMembers,
-                },
-            },
-        },
+        rest,
     }
 }
 
-// A line on an answer.
-fn say(out: &mut String, place: usize, answer: &Answer) -> Result<(), AllocError> {
-    let said = match answer {
-        Answer::Done => writeln!(out, "{place} done"),
-        Answer::Block(bytes) => {
-            let first = bytes[0];
-            writeln!(out, "{place} block {first}")
-        }
-        Answer::Number(n) => writeln!(out, "{place} number {n}"),
-        Answer::Counts(mended, refused, absent) => {
-            writeln!(out, "{place} counts {mended} {refused} {absent}")
-        }
-        Answer::Order(slot) => writeln!(out, "{place} order {slot}"),
-        Answer::Refused(refusal) => {
-            let number = refusal.number();
-            writeln!(out, "{place} refused {number}")
-        }
-        Answer::NoOrder => writeln!(out, "{place} no order"),
-    };
-    match said {
-        Ok(()) => Ok(()),
-        Err(_) => Err(AllocError),
+// Four cells: eight stripes of two data columns.
+fn cells() -> Cells {
+    cell_before(cell_before(cell_before(cell_before(NoMembers))))
+}
+
+// A line on what came of a call.
+fn say(
+    out: &mut String,
+    place: usize,
+    answer: &Result<Answer, Declined>,
+) -> Result<(), AllocError> {
+    match answer {
+        Ok(answer) => writeln!(out, "{place} {answer}"),
+        Err(declined) => writeln!(out, "{place} {declined}"),
     }
 }
 
 // Makes the calls, and appends a line on each answer.
-fn tell<C: Code, L: Layout, B: Bank>(
+fn tell<V: AnyVolume>(
     heap: Global,
-    volume: &mut Volume<C, L, B>,
+    volume: &mut V,
     orders: &mut Vec<Order>,
     calls: &[Call],
     out: &mut String,

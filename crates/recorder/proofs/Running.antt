@@ -1,22 +1,46 @@
 -- Operations and runs of operations, as parts of a volume's history.
-use Rattle.std.proofs.Common.{◌≡◌, ℕ, ◌+◌, ◌<◌, ◌≤◌, List, [], ◌++◌, IfOk, Some, None, Ok, Err, Option, Result, sym, subst}
-use Rattle.contents.specs.Refusals.{Told}
+use Rattle.std.proofs.Common.{◌≡◌, ℕ, ◌+◌, ◌<◌, ◌≤◌, List, [], ◌++◌, IfOk, IsErr, IsErrAnd, Some, None, Ok, Err, Option, Result, sym, refl, ap, ◌∙◌, subst}
+use Rattle.std.proofs.lemmas.Bool.{false≢true}
+use Rattle.contents.specs.Refusals.{Told, told}
+use Rattle.contents.specs.declared.Refusal.{Refusal}
 use Rattle.code.specs.Codes.{Coding}
 use Rattle.contents.specs.Columns.{Members}
 use Rattle.contents.specs.Changes.{FormatChanges}
 use Rattle.contents.specs.Records.{idle_at}
 use Rattle.contents.specs.Shapes.{Shape}
-use Rattle.history.specs.Calls.{State, Answer}
+use Rattle.history.specs.Calls.{State, Call, Answer}
 use Rattle.history.specs.Calls.Call.{open_slot, step, close}
 use Rattle.history.specs.Calls.Answer.{number, order, refused}
 use Rattle.history.specs.History.{Event, Kept}
+use Rattle.runs.specs.declared.single.AnyVolume.{Ghosts as AnyVolume}
 use Rattle.runs.specs.Told.{event, GoesOn}
 use Rattle.runs.proofs.Logged.{goes_nowhere, goes_further}
+use Rattle.script.specs.declared.parts.Act.{Act}
 use Rattle.script.specs.declared.parts.Act.TheVariants.{Rebuild}
-use Rattle.recorder.specs.Acts.{SteppedOn, none, more, spent, ended, halted, kept_shut, rebuilt, rebuild_line, ActsOn, StepsOn}
-use Rattle.recorder.specs.Lines.{refused_line}
+use Rattle.recorder.specs.declared.acts.ActRefusal.{ActRefusal}
+use Rattle.recorder.specs.declared.acts.ActRefusal.TheVariants.{Refused}
+use Rattle.recorder.specs.Acts.{SteppedOn, none, more, spent, ended, halted, kept_shut, rebuilt, rebuild_line, refusal_line, told_line, OneCall, Acted, Rebuilt, StepsOn}
+use Rattle.recorder.specs.Doing.{DidAct}
+use Rattle.recorder.specs.Lines.{line_of, refused_line}
 use Rattle.recorder.specs.Slots.{recorder_shape, blank_members}
 use Rattle.recorder.specs.Runs.{Ran, start, next, RanOn, ActStep, AllLines, Replayed}
+
+-- ---- an operation that is one call
+
+-- a refusal that goes up
+pub refused_line_of : (r : Result ℕ ActRefusal) (e : Refusal) → IsErr r × IsErrAnd r (λ x. x ≡ Refused e) → told_line r ≡ refused_line (told e)
+refused_line_of (Ok n) e h = absurd (false≢true h.0)
+refused_line_of (Err x) e h = ap refusal_line h.1
+
+-- the act is what an operation asks for
+pub one_call : {A : Type 0} (any : AnyVolume A) (v w : A) (a b : Act) (q : Call) (x : Answer) (r : Result ℕ ActRefusal) → a ≡ b
+    → ((es : List Event) (l : ℕ × ℕ) → OneCall q es l → Acted (any.shape v).stripes a es l) → any.shape w ≡ any.shape v → told_line r ≡ line_of x
+    → GoesOn (any.shape v) (any.state v) (event q x) (any.state w) → DidAct any v b r w
+one_call any v w a b q x r same_act acted same line goes =
+    subst (λ (c : Act). DidAct any v c r w) same_act (record {
+      same = same;
+      acts = record { log = event q x; acted = acted (event q x) (told_line r) (record { answer = x; made = refl; line = line }); goes = goes };
+    })
 
 -- ---- the steps of a rebuild
 
@@ -50,20 +74,35 @@ steps_spent V σ τ i n y e g = record {
 }
 
 -- ---- a rebuild
-pub rebuild_refused : (V : Shape) (σ τ : State) (i y : ℕ) (t : Told) → GoesOn V σ (event (open_slot i) (refused t)) τ → ActsOn V σ (Rebuild i y) (refused_line t) τ
-rebuild_refused V σ τ i y t h = record { log = event (open_slot i) (refused t); acted = kept_shut t; goes = h }
+pub rebuild_refused : {A : Type 0} (any : AnyVolume A) (v w : A) (i y : ℕ) (e : Refusal) (r : Result ℕ ActRefusal) → any.shape w ≡ any.shape v → told_line r ≡ refused_line (told e)
+    → GoesOn (any.shape v) (any.state v) (event (open_slot i) (refused (told e))) (any.state w) → DidAct any v (Rebuild i y) r w
+rebuild_refused any v w i y e r same line goes = record {
+  same = same;
+  acts = record {
+    log = event (open_slot i) (refused (told e));
+    acted = subst (λ (l : ℕ × ℕ). Rebuilt (any.shape v).stripes i y (event (open_slot i) (refused (told e))) l) (sym line) (kept_shut (told e));
+    goes = goes;
+  };
+}
 
--- opened, stepped and closed
-pub rebuild_done : (V W X : Shape) (σ τ ρ υ : State) (i y j : ℕ) (stop : Option Told) (r : Answer) → W ≡ V → X ≡ V → j ≡ i → GoesOn V σ (event (open_slot i) (order j)) τ
-    → StepsOn W τ j y stop ρ → GoesOn X ρ (event (close j) r) υ → ActsOn V σ (Rebuild i y) (rebuild_line stop r) υ
-rebuild_done V W X σ τ ρ υ i y j stop r ew ex e f g h =
-    let f' = subst (λ (k : ℕ). GoesOn V σ (event (open_slot i) (order k)) τ) e f in
-    let g' = subst (λ (Z : Shape). StepsOn Z τ i y stop ρ) ew (subst (λ (k : ℕ). StepsOn W τ k y stop ρ) e g) in
-    let h' = subst (λ (Z : Shape). GoesOn Z ρ (event (close i) r) υ) ex (subst (λ (k : ℕ). GoesOn X ρ (event (close k) r) υ) e h) in
+-- opened, which gives a; stepped, which gives b; and closed
+pub rebuild_done : {A : Type 0} (any : AnyVolume A) (v a b w : A) (i y j : ℕ) (stop : Option Told) (x : Answer) (r : Result ℕ ActRefusal)
+    → any.shape a ≡ any.shape v → any.shape b ≡ any.shape a → any.shape w ≡ any.shape b → j ≡ i → told_line r ≡ rebuild_line stop x
+    → GoesOn (any.shape v) (any.state v) (event (open_slot i) (order j)) (any.state a) → StepsOn (any.shape a) (any.state a) j y stop (any.state b)
+    → GoesOn (any.shape b) (any.state b) (event (close j) x) (any.state w) → DidAct any v (Rebuild i y) r w
+rebuild_done any v a b w i y j stop x r opened stepped closed slot line f g h =
+    let V = any.shape v in
+    let same = stepped ∙ opened in
+    let f' = subst (λ (k : ℕ). GoesOn V (any.state v) (event (open_slot i) (order k)) (any.state a)) slot f in
+    let g' = subst (λ (Z : Shape). StepsOn Z (any.state a) i y stop (any.state b)) opened (subst (λ (k : ℕ). StepsOn (any.shape a) (any.state a) k y stop (any.state b)) slot g) in
+    let h' = subst (λ (Z : Shape). GoesOn Z (any.state b) (event (close i) x) (any.state w)) same (subst (λ (k : ℕ). GoesOn (any.shape b) (any.state b) (event (close k) x) (any.state w)) slot h) in
     record {
-      log = event (open_slot i) (order i) ++ (g'.log ++ event (close i) r);
-      acted = rebuilt g'.log stop r g'.stopped;
-      goes = goes_further V σ τ υ _ _ f' (goes_further V τ ρ υ _ _ g'.goes h');
+      same = closed ∙ same;
+      acts = record {
+        log = event (open_slot i) (order i) ++ (g'.log ++ event (close i) x);
+        acted = subst (λ (l : ℕ × ℕ). Rebuilt V.stripes i y (event (open_slot i) (order i) ++ (g'.log ++ event (close i) x)) l) (sym line) (rebuilt g'.log stop x g'.stopped);
+        goes = goes_further V (any.state v) (any.state a) (any.state w) _ _ f' (goes_further V (any.state a) (any.state b) (any.state w) _ _ g'.goes h');
+      };
     }
 
 -- ---- runs of operations

@@ -1,5 +1,5 @@
 -- The calls that an operation makes on a volume with S stripes, their answers, and what its line says of them.
-use Rattle.std.specs.Prelude.{◌≡◌, ℕ, ◌+◌, ◌<◌, ◌≤◌, List, [], ◌++◌, replicate, Some, None, Option}
+use Rattle.std.specs.Prelude.{◌≡◌, ℕ, ◌+◌, ◌<◌, ◌≤◌, List, [], ◌++◌, replicate, Some, None, Ok, Err, Option, Result}
 use Rattle.contents.specs.declared.Refusal.{Refusal}
 use Rattle.contents.specs.Refusals.{Told, told}
 use Rattle.contents.specs.Shapes.{Shape}
@@ -10,7 +10,19 @@ use Rattle.history.specs.History.{Event}
 use Rattle.runs.specs.Told.{event, GoesOn}
 use Rattle.script.specs.declared.parts.Act.{Act}
 use Rattle.script.specs.declared.parts.Act.TheVariants.{Tick, Read, Write, Scrub, Replace, Rebuild, Unknown}
+use Rattle.recorder.specs.declared.acts.ActRefusal.{ActRefusal}
+use Rattle.recorder.specs.declared.acts.ActRefusal.TheVariants as act_refusal
+use Rattle.recorder.specs.declared.acts.ActRefusal.TheVariants.{Refused}
 use Rattle.recorder.specs.Lines.{line_of, refused_line, unknown_line}
+
+-- the line of what an operation answered
+abbrev pub refusal_line : ActRefusal → ℕ × ℕ
+refusal_line (Refused e) = refused_line (told e)
+refusal_line act_refusal.Unknown = unknown_line
+
+abbrev pub told_line : Result ℕ ActRefusal → ℕ × ℕ
+told_line (Ok n) = (0, n)
+told_line (Err e) = refusal_line e
 
 -- one call, whose answer is the line's
 pub record OneCall (q : Call) (es : List Event) (r : ℕ × ℕ) : Type 0 where
@@ -35,9 +47,9 @@ rebuild_line None r = line_of r
 rebuild_line (Some t) r = refused_line t
 
 -- the refusal of a step, in numbers
-abbrev pub told_stop : Option Refusal → Option Told
-told_stop None = None
-told_stop (Some e) = Some (told e)
+abbrev pub told_stop : Result Unit Refusal → Option Told
+told_stop (Ok u) = None
+told_stop (Err e) = Some (told e)
 
 -- the slot is opened, which may be refused; then come the steps, and then it is closed
 pub data Rebuilt (S i y : ℕ) : List Event → ℕ × ℕ → Type 0 where

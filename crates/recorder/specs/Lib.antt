@@ -1,5 +1,6 @@
 pub mod Lines
 pub mod Acts
+pub mod Doing
 pub mod Planned
 pub mod Slots
 pub mod Runs

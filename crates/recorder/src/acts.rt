@@ -1,25 +1,36 @@
-// One operation of a script on a volume, as the refusal and the value of its line.
+// One operation of a script on a volume, and the two numbers that its line gives of its answer.
 ghost use Rattle.std.specs.Prelude.{◌≡◌};
-ghost use Rattle.contents.specs.Refusals.{told, outcome};
-ghost use Rattle.history.specs.Calls.{answered};
-ghost use Rattle.history.specs.Calls.Answer.{done, number, counts};
 ghost use Rattle.script.specs.Acts.{act_of};
-ghost use Rattle.volume.specs.Volumes.{means, shape};
-ghost use Rattle.runs.specs.Told.{state};
-ghost use Rattle.recorder.specs.Lines.{union_of, refused_line, line_of};
-ghost use Rattle.recorder.specs.Acts.{ActsOn, StepsOn, told_stop};
+ghost use Rattle.recorder.specs.declared.acts.ActRefusal.TheVariants.{Refused};
+ghost use Rattle.recorder.specs.Lines.{union_of};
+ghost use Rattle.recorder.specs.Acts.{StepsOn, told_line, told_stop};
+ghost use Rattle.recorder.specs.Doing.{DidAct};
 
-use bank::Bank;
-use code::{BLOCK, Code};
+use code::BLOCK;
 use contents::{Loss, Refusal};
-use layout::Layout;
-use runs::single;
+use runs::single::AnyVolume;
 use script::parts::{Act, Operation};
-use volume::volume::Volume;
 use volume::volume::rebuilds::Order;
 
-// The refusal of an operation that is not known.
+// The number of an operation that is not known.
 const UNKNOWN: u8 = 10;
+
+// Why an operation has no value.
+#[derive(Clone, Copy, PartialEq, Eq, Debug)]
+pub(crate) enum ActRefusal {
+    // a call was refused
+    Refused(Refusal),
+    // it is not known, and no call was made
+    Unknown,
+}
+
+impl From<Refusal> for ActRefusal {
+    ghost from_gives = { λ x y. y ≡ Refused x };
+
+    fn from(refusal: Refusal) -> ActRefusal {
+        ActRefusal::Refused(refusal)
+    }
+}
 
 // The slots that are lost, whatever the cause.
 fn union(loss: Loss) -> usize
@@ -28,133 +39,83 @@ fn union(loss: Loss) -> usize
     loss.gone as usize | loss.behind as usize | loss.unreadable as usize
 }
 
-// The line of a refusal: its number, and the slots that it names.
-fn refused(refusal: Refusal) -> (u8, usize)
-    ensures value { result ≡ refused_line (told refusal) }
-{
-    match refusal {
-        Refusal::Lost(loss) => (refusal.number(), union(loss)),
-        Refusal::Torn(loss) => (refusal.number(), union(loss)),
-        _ => (refusal.number(), 0),
-    }
-}
-
-// The line of a call that answers nothing.
-fn plain(answer: Result<(), Refusal>) -> (u8, usize)
-    ensures value { result ≡ line_of (answered (λ _. done) (outcome answer)) }
+// The refusal and the value of a line: 0 and what was answered; or the refusal's number, and the slots that it names.
+pub(crate) fn numbers(answer: Result<usize, ActRefusal>) -> (u8, usize)
+    ensures value { result ≡ told_line answer }
 {
     match answer {
-        Ok(()) => (0, 0),
-        Err(refusal) => refused(refusal),
-    }
-}
-
-// The line of a call that answers a number.
-fn numbered(answer: Result<usize, Refusal>) -> (u8, usize)
-    ensures value { result ≡ line_of (answered number (outcome answer)) }
-{
-    match answer {
-        Ok(n) => (0, n),
-        Err(refusal) => refused(refusal),
-    }
-}
-
-// The line of a scrub: the number of columns mended.
-fn counted(answer: Result<(usize, usize, usize), Refusal>) -> (u8, usize)
-    ensures value { result ≡ line_of (answered (λ x. counts x.0 x.1 x.2) (outcome answer)) }
-{
-    match answer {
-        Ok((mended, _, _)) => (0, mended),
-        Err(refusal) => refused(refusal),
+        Ok(value) => (0, value),
+        Err(ActRefusal::Unknown) => (UNKNOWN, 0),
+        Err(ActRefusal::Refused(refusal)) => match refusal {
+            Refusal::Lost(loss) => (refusal.number(), union(loss)),
+            Refusal::Torn(loss) => (refusal.number(), union(loss)),
+            _ => (refusal.number(), 0),
+        },
     }
 }
 
 // A read: its value is the first byte.
-fn read<C: Code, L: Layout, B: Bank>(volume: &mut Volume<C, L, B>, block: usize) -> (u8, usize)
-    ensures same { (shape (means C.Code.coding L.Layout.slot L.Layout.column B.Bank.state B.Bank.meaning) volume.new) ≡ (shape (means C.Code.coding L.Layout.slot L.Layout.column B.Bank.state B.Bank.meaning) volume.old) }
-    ensures acts { ActsOn (shape (means C.Code.coding L.Layout.slot L.Layout.column B.Bank.state B.Bank.meaning) volume.old) (state (means C.Code.coding L.Layout.slot L.Layout.column B.Bank.state B.Bank.meaning) volume.old) (Act.Read block) result (state (means C.Code.coding L.Layout.slot L.Layout.column B.Bank.state B.Bank.meaning) volume.new) }
+fn read<V: AnyVolume>(volume: &mut V, block: usize) -> Result<usize, ActRefusal>
+    ensures did { DidAct V.AnyVolume volume.old (Act.Read block) result volume.new }
 {
     let mut buffer = [0u8; BLOCK];
-    match single::read(volume, block, &mut buffer) {
-        Ok(()) => (0, usize::from(buffer[0])),
-        Err(refusal) => refused(refusal),
-    }
+    volume.read(block, &mut buffer)?;
+    Ok(usize::from(buffer[0]))
 }
 
 // A write of a block filled with a byte: its value is the number of columns missing after it.
-fn write<C: Code, L: Layout, B: Bank>(
-    volume: &mut Volume<C, L, B>,
-    block: usize,
-    byte: u8,
-) -> (u8, usize)
-    ensures same { (shape (means C.Code.coding L.Layout.slot L.Layout.column B.Bank.state B.Bank.meaning) volume.new) ≡ (shape (means C.Code.coding L.Layout.slot L.Layout.column B.Bank.state B.Bank.meaning) volume.old) }
-    ensures acts { ActsOn (shape (means C.Code.coding L.Layout.slot L.Layout.column B.Bank.state B.Bank.meaning) volume.old) (state (means C.Code.coding L.Layout.slot L.Layout.column B.Bank.state B.Bank.meaning) volume.old) (Act.Write block byte) result (state (means C.Code.coding L.Layout.slot L.Layout.column B.Bank.state B.Bank.meaning) volume.new) }
+fn write<V: AnyVolume>(volume: &mut V, block: usize, byte: u8) -> Result<usize, ActRefusal>
+    ensures did { DidAct V.AnyVolume volume.old (Act.Write block byte) result volume.new }
 {
-    numbered(single::write(volume, block, &[byte; BLOCK]))
+    Ok(volume.write(block, &[byte; BLOCK])?)
 }
 
-// Steps by an order until no stripe is left, a step is refused, or so many are made. Answers the refusal, if there was one.
-fn steps<C: Code, L: Layout, B: Bank>(
-    volume: &mut Volume<C, L, B>,
-    order: &Order,
-    most: usize,
-) -> Option<Refusal>
-    ensures same { (shape (means C.Code.coding L.Layout.slot L.Layout.column B.Bank.state B.Bank.meaning) volume.new) ≡ (shape (means C.Code.coding L.Layout.slot L.Layout.column B.Bank.state B.Bank.meaning) volume.old) }
-    ensures steps { StepsOn (shape (means C.Code.coding L.Layout.slot L.Layout.column B.Bank.state B.Bank.meaning) volume.old) (state (means C.Code.coding L.Layout.slot L.Layout.column B.Bank.state B.Bank.meaning) volume.old) order.now.slot most (told_stop result) (state (means C.Code.coding L.Layout.slot L.Layout.column B.Bank.state B.Bank.meaning) volume.new) }
+// Steps by an order until no stripe is left, a step is refused, or so many are made.
+fn steps<V: AnyVolume>(volume: &mut V, order: &Order, most: usize) -> Result<(), Refusal>
+    ensures same { V.shape volume.new ≡ V.shape volume.old }
+    ensures steps { StepsOn (V.shape volume.old) (V.state volume.old) order.now.slot most (told_stop result) (V.state volume.new) }
 {
     let stripes = volume.stripes();
     for _made in 0..most {
-        match single::step(volume, order) {
-            Ok(frontier) => {
-                if frontier >= stripes {
-                    return None;
-                }
-            }
-            Err(refusal) => return Some(refusal),
+        let frontier = volume.step(order)?;
+        if frontier >= stripes {
+            return Ok(());
         }
     }
-    None
+    Ok(())
 }
 
 // A rebuild of a slot by at most so many steps: its value is the frontier that it came to.
-fn rebuild<C: Code, L: Layout, B: Bank>(
-    volume: &mut Volume<C, L, B>,
-    slot: usize,
-    most: usize,
-) -> (u8, usize)
-    ensures same { (shape (means C.Code.coding L.Layout.slot L.Layout.column B.Bank.state B.Bank.meaning) volume.new) ≡ (shape (means C.Code.coding L.Layout.slot L.Layout.column B.Bank.state B.Bank.meaning) volume.old) }
-    ensures acts { ActsOn (shape (means C.Code.coding L.Layout.slot L.Layout.column B.Bank.state B.Bank.meaning) volume.old) (state (means C.Code.coding L.Layout.slot L.Layout.column B.Bank.state B.Bank.meaning) volume.old) (Act.Rebuild slot most) result (state (means C.Code.coding L.Layout.slot L.Layout.column B.Bank.state B.Bank.meaning) volume.new) }
+fn rebuild<V: AnyVolume>(volume: &mut V, slot: usize, most: usize) -> Result<usize, ActRefusal>
+    ensures did { DidAct V.AnyVolume volume.old (Act.Rebuild slot most) result volume.new }
 {
-    let order = match single::open(volume, slot) {
-        Ok(order) => order,
-        Err(refusal) => return refused(refusal),
-    };
-    let stopped = steps(volume, &order, most);
-    let closed = single::close(volume, order);
-    match stopped {
-        Some(refusal) => refused(refusal),
-        None => numbered(closed),
-    }
+    let order = volume.open(slot)?;
+    let stepped = steps(volume, &order, most);
+    let closed = volume.close(order);
+    stepped?;
+    Ok(closed?)
 }
 
 // What an operation answers.
-pub(crate) fn act<C: Code, L: Layout, B: Bank>(
-    volume: &mut Volume<C, L, B>,
-    operation: Operation,
-) -> (u8, usize)
-    ensures same { (shape (means C.Code.coding L.Layout.slot L.Layout.column B.Bank.state B.Bank.meaning) volume.new) ≡ (shape (means C.Code.coding L.Layout.slot L.Layout.column B.Bank.state B.Bank.meaning) volume.old) }
-    ensures acts { ActsOn (shape (means C.Code.coding L.Layout.slot L.Layout.column B.Bank.state B.Bank.meaning) volume.old) (state (means C.Code.coding L.Layout.slot L.Layout.column B.Bank.state B.Bank.meaning) volume.old) (act_of operation) result (state (means C.Code.coding L.Layout.slot L.Layout.column B.Bank.state B.Bank.meaning) volume.new) }
+pub(crate) fn act<V: AnyVolume>(volume: &mut V, operation: Operation) -> Result<usize, ActRefusal>
+    ensures did { DidAct V.AnyVolume volume.old (act_of operation) result volume.new }
 {
-    match operation.act() {
+    match Act::from(operation) {
         Act::Tick => {
-            single::tick(volume);
-            (0, 0)
+            volume.tick();
+            Ok(0)
         }
         Act::Read(block) => read(volume, block),
         Act::Write(block, byte) => write(volume, block, byte),
-        Act::Scrub(stripe) => counted(single::scrub(volume, stripe)),
-        Act::Replace(slot) => plain(single::replace(volume, slot)),
+        Act::Scrub(stripe) => {
+            let (mended, _, _) = volume.scrub(stripe)?;
+            Ok(mended)
+        }
+        Act::Replace(slot) => {
+            volume.replace(slot)?;
+            Ok(0)
+        }
         Act::Rebuild(slot, most) => rebuild(volume, slot, most),
-        Act::Unknown => (UNKNOWN, 0),
+        Act::Unknown => Err(ActRefusal::Unknown),
     }
 }

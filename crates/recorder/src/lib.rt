@@ -4,8 +4,6 @@
 
 ghost use Rattle.std.specs.Prelude.{◌≡◌, ◌<◌, true, false, IfOk, string_bytes, OnOk};
 ghost use Rattle.script.specs.Format.{is_script, entry_count, operation_count, code_at};
-ghost use Rattle.volume.specs.Volumes.{means, shape};
-ghost use Rattle.runs.specs.Told.{state};
 ghost use Rattle.remap.specs.Places.{table_of, unmoved, kept_back};
 ghost use Rattle.recorder.specs.Planned.{with_planned, planned};
 ghost use Rattle.bank.specs.Chains.{no_members};
@@ -13,8 +11,7 @@ ghost use Rattle.recorder.specs.Slots.{slot_meaning, image_slot, image_slots, re
 ghost use Rattle.recorder.specs.Runs.{ActStep, AllLines, Replayed, coding_of};
 ghost use Rattle.script.specs.Text.{bad_script};
 
-use acts::act;
-use bank::Bank;
+use acts::{act, numbers};
 use bank::chain::Link;
 use bank::empty::NoMembers;
 use code::Code;
@@ -22,17 +19,17 @@ use diagonal::evenodd::EvenOdd;
 use diagonal::rdp::Rdp;
 use faulty::FaultLayer;
 use galois::Pq;
-use layout::{Layout, Rotating};
+use layout::Rotating;
 use member::Member;
 use member::cell::Cell;
 use member::image::Image;
 use remap::Remap;
 use runs::format;
+use runs::single::AnyVolume;
 use script::line::{Line, bad_script, push_line};
 use script::parts::{CodeName, Entry};
 use script::source::Script;
 use std::alloc::{AllocError, Global};
-use volume::volume::Volume;
 use volume::volume::blank::Blank;
 
 mod acts;
@@ -90,16 +87,15 @@ fn images(heap: Global, script: &Script) -> Result<Images, AllocError>
     let third = image(heap, script, 3)?;
     let fourth = image(heap, script, 4)?;
     let fifth = image(heap, script, 5)?;
-    Ok(Link {
-        first: third,
-        rest: Link {
-            first: fourth,
-            rest: Link {
-                first: fifth,
-                rest: NoMembers,
-            },
-        },
-    })
+    let rest = Link {
+        first: fifth,
+        rest: NoMembers,
+    };
+    let rest = Link {
+        first: fourth,
+        rest,
+    };
+    Ok(Link { first: third, rest })
 }
 
 // All slots, with the script's entries. Those for slots that there are not are dropped.
@@ -107,33 +103,35 @@ fn slots(heap: Global, script: &Script) -> Result<Slots, AllocError>
     ensures made { IfOk result (λ b. chain_means cell_means (chain_means cell_means (chain_means cell_means (chain_means image_means (chain_means image_means (chain_means image_means (λ _. no_members)))))) b ≡ recorder_slots script.now.bytes.items) }
 {
     let rest = images(heap, script)?;
+    let rest = Link {
+        first: stack(Cell::new(), script, 2),
+        rest,
+    };
+    let rest = Link {
+        first: stack(Cell::new(), script, 1),
+        rest,
+    };
     Ok(Link {
         first: stack(Cell::new(), script, 0),
-        rest: Link {
-            first: stack(Cell::new(), script, 1),
-            rest: Link {
-                first: stack(Cell::new(), script, 2),
-                rest,
-            },
-        },
+        rest,
     })
 }
 
 // Does operation `i` of a script and appends its line.
-fn step<C: Code, L: Layout, B: Bank>(
-    volume: &mut Volume<C, L, B>,
+fn step<V: AnyVolume>(
+    volume: &mut V,
     script: &Script,
     i: usize,
     out: &mut String,
 ) -> Result<(), AllocError>
     requires within { i < operation_count script.now.bytes.items }
-    ensures same { (shape (means C.Code.coding L.Layout.slot L.Layout.column B.Bank.state B.Bank.meaning) volume.new) ≡ (shape (means C.Code.coding L.Layout.slot L.Layout.column B.Bank.state B.Bank.meaning) volume.old) }
-    ensures made { OnOk result (ActStep (shape (means C.Code.coding L.Layout.slot L.Layout.column B.Bank.state B.Bank.meaning) volume.old) script.now.bytes.items i (state (means C.Code.coding L.Layout.slot L.Layout.column B.Bank.state B.Bank.meaning) volume.old) (state (means C.Code.coding L.Layout.slot L.Layout.column B.Bank.state B.Bank.meaning) volume.new) (string_bytes out.old) (string_bytes out.new)) }
+    ensures same { V.shape volume.new ≡ V.shape volume.old }
+    ensures made { OnOk result (ActStep (V.shape volume.old) script.now.bytes.items i (V.state volume.old) (V.state volume.new) (string_bytes out.old) (string_bytes out.new)) }
 {
     let Some(operation) = script.operation(i) else {
         return Ok(());
     };
-    let (refusal, value) = act(volume, operation);
+    let (refusal, value) = numbers(act(volume, operation));
     let line = Line {
         position: i,
         operation: operation.number,
@@ -144,12 +142,12 @@ fn step<C: Code, L: Layout, B: Bank>(
 }
 
 // The lines of a script's operations on a volume.
-fn lines<C: Code + Drop, L: Layout + Drop, B: Bank + Drop>(
+fn lines<V: AnyVolume + Drop>(
     heap: Global,
-    mut volume: Volume<C, L, B>,
+    mut volume: V,
     script: &Script,
 ) -> Result<String, AllocError>
-    ensures made { IfOk result (λ s. AllLines (shape (means C.Code.coding L.Layout.slot L.Layout.column B.Bank.state B.Bank.meaning) volume) script.now.bytes.items (state (means C.Code.coding L.Layout.slot L.Layout.column B.Bank.state B.Bank.meaning) volume) (string_bytes s)) }
+    ensures made { IfOk result (λ s. AllLines (V.shape volume) script.now.bytes.items (V.state volume) (string_bytes s)) }
 {
     let mut out = String::new(heap);
     for i in 0..script.operations() {

@@ -2,6 +2,7 @@
 // 16-bit little-endian number of bytes and the bytes; a length that goes past the end ends there.
 #![tactic(auto)]
 
+use notation::numbers::number_at;
 use recorder::replay;
 use std::alloc::{AllocError, Global};
 use std::io::Read;
@@ -14,14 +15,11 @@ fn text_of(heap: Global, script: &[u8]) -> Result<String, AllocError> {
 fn main(rt: HostRuntime) -> anyhow::Result<()> {
     let mut bytes = Vec::new(rt.alloc());
     rt.stdin().read_to_end(&mut bytes)?;
-    let all = bytes.as_slice();
-    let mut at = 0;
-    while all.len() - at >= 2 {
-        let length = usize::from(all[at]) + 256 * usize::from(all[at + 1]);
-        let start = at + 2;
-        let end = start + length.min(all.len() - start);
-        rt.print(text_of(rt.alloc(), &all[start..end])?)?;
-        at = end;
+    let mut rest = bytes.as_slice();
+    while let [_, _, after @ ..] = rest {
+        let (script, others) = after.split_at(number_at(rest, 0).min(after.len()));
+        rt.print(text_of(rt.alloc(), script)?)?;
+        rest = others;
     }
     Ok(())
 }

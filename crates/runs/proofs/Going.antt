@@ -1,7 +1,8 @@
 -- A call that was made is one event more of the volume's history.
-use Rattle.std.proofs.Common.{◌≡◌, ℕ, Bool, true, false, cond, List, [], ◌∷◌, length, is_ok, IfOk, Ok, Err, Result, sym, refl, ap, ◌∙◌, subst, arith}
-use Rattle.std.proofs.lemmas.Bool.{false≢true}
+use Rattle.std.proofs.Common.{◌≡◌, ◌≢◌, ℕ, Bool, true, false, cond, List, [], ◌∷◌, length, is_ok, IfOk, Ok, Err, Result, sym, refl, ap, ◌∙◌, subst, arith}
+use Rattle.std.proofs.lemmas.Bool.{cond-false, ne_eqb, false≢true}
 use Rattle.code.specs.Blocks.{Bytes}
+use Rattle.code.specs.declared.Code.{Ghosts as Code}
 use Rattle.contents.specs.declared.Refusal.{Refusal}
 use Rattle.contents.specs.Refusals.{Told, answering}
 use Rattle.contents.specs.Shapes.{Shape, Roomy}
@@ -12,23 +13,13 @@ use Rattle.history.specs.History.{GivenBytes}
 use Rattle.history.proofs.Logs.{kept_by_calls, kept_is_roomy}
 use Rattle.volume.specs.declared.volume.Volume.{Volume}
 use Rattle.volume.specs.declared.volume.rebuilds.Order.{Order}
-use Rattle.volume.specs.declared.size.Size.{Size}
-use Rattle.volume.specs.Sizes.{size_of, shape_at}
 use Rattle.volume.specs.Slots.{records_of}
-use Rattle.volume.specs.Volumes.{Means, shape, records, ordered}
+use Rattle.volume.specs.Volumes.{records, ordered}
 use Rattle.runs.specs.Told.{event, event_with, GoesOn}
 
--- ---- what no call changes
-module _ {C L B : Type 0} (m : Means C L B) (v w : Volume C L B) where
-  abbrev shape_by : C → L → Size → Shape
-  shape_by c l z = shape_at (m.coding c) (m.slot l) (m.column l) (size_of (m.coding c).limit z)
-
-  pub shape_same : w.code ≡ v.code → w.layout ≡ v.layout → w.size ≡ v.size → shape m w ≡ shape m v
-  shape_same a b e =
-      ap (λ (x : C). shape_by x w.layout w.size) a ∙ ap (λ (x : L). shape_by v.code x w.size) b ∙ ap (shape_by v.code v.layout) e
-
-  pub records_same : w.table ≡ v.table → records m w ≡ records m v
-  records_same e = ap (λ t. records_of t.rows) e
+-- ---- a table that stays
+pub records_same : {C L B : Type 0} {K : Code C} (v w : Volume C L B K) → w.grid.table ≡ v.grid.table → records w ≡ records v
+records_same v w e = ap (λ t. records_of t.rows) e
 
 -- ---- one event more
 abbrev is_write : Call → Bool
@@ -66,3 +57,10 @@ pub order_slot : (r : Result Order Refusal) (x : Result ℕ Told) (i : ℕ) → 
 order_slot (Ok o) (Ok n) i e = let d : o.slot ≡ i = cc in d
 order_slot (Ok o) (Err t) i e = absurd (let z : ◌≡◌ {A = ℕ} 0 1 = cc in omega arith)
 order_slot (Err f) x i e = tt
+
+-- a read into a buffer that is not a block's is refused, whichever its length
+pub unsized : (V : Shape) (σ τ : State) (a n : ℕ) (r : Answer) → n ≢ 512 → Makes V σ (read a 0) r τ → Makes V σ (read a n) r τ
+unsized V σ τ a n r h m = record {
+  answer = m.answer ∙ sym (ap (answered _) (cond-false _ _ _ (ne_eqb n 512 h)));
+  changes = m.changes;
+}

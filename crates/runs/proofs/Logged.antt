@@ -1,5 +1,5 @@
 -- One call more at the end of a run, and a history that goes on by one part after another.
-use Rattle.std.proofs.Common.{◌≡◌, List, [], ◌∷◌, ◌++◌, map, length, sym, refl, ap, ◌∙◌, subst, arith}
+use Rattle.std.proofs.Common.{◌≡◌, List, [], ◌∷◌, ◌++◌, map, length, Result, sym, refl, ap, ◌∙◌, subst, arith}
 use Rattle.std.proofs.lemmas.List.{append_assoc, append-nil, map-append, reverse-append}
 use Rattle.contents.specs.Shapes.{Shape}
 use Rattle.history.specs.Calls as calls
@@ -9,16 +9,17 @@ use Rattle.history.specs.History.{Event, Kept}
 use Rattle.volume.specs.declared.volume.rebuilds.Order.{Order}
 use Rattle.runs.specs.declared.Call.{Call}
 use Rattle.runs.specs.declared.Answer.{Answer}
+use Rattle.runs.specs.declared.Declined.{Declined}
 use Rattle.runs.specs.Told.{event, event_of, orders_after, events, orders_left, lacks, is_none, AllMade, GoesOn, closings, ClosesOn}
 
-pub orders_push : (os : List Order) (qs : List Call) (rs : List Answer) (q : Call) (r : Answer) → length qs ≡ length rs
+pub orders_push : (os : List Order) (qs : List Call) (rs : List (Result Answer Declined)) (q : Call) (r : Result Answer Declined) → length qs ≡ length rs
     → orders_left os (qs ++ q ∷ []) (rs ++ r ∷ []) ≡ orders_after (orders_left os qs rs) q r
 orders_push os [] [] q r e = refl
 orders_push os [] (y ∷ rs) q r e = absurd (omega arith)
 orders_push os (x ∷ qs) [] q r e = absurd (omega arith)
 orders_push os (x ∷ qs) (y ∷ rs) q r e = orders_push (orders_after os x y) qs rs q r (omega arith)
 
-pub events_push : (os : List Order) (qs : List Call) (rs : List Answer) (q : Call) (r : Answer) → length qs ≡ length rs
+pub events_push : (os : List Order) (qs : List Call) (rs : List (Result Answer Declined)) (q : Call) (r : Result Answer Declined) → length qs ≡ length rs
     → events os (qs ++ q ∷ []) (rs ++ r ∷ []) ≡ events os qs rs ++ event_of (orders_left os qs rs) q r
 events_push os [] [] q r e = append-nil (event_of os q r)
 events_push os [] (y ∷ rs) q r e = absurd (omega arith)
@@ -27,7 +28,7 @@ events_push os (x ∷ qs) (y ∷ rs) q r e =
     ap (λ (l : List Event). event_of os x y ++ l) (events_push (orders_after os x y) qs rs q r (omega arith))
     ∙ sym (append_assoc (event_of os x y) (events (orders_after os x y) qs rs) (event_of (orders_left (orders_after os x y) qs rs) q r))
 
-pub all_made_push : (os : List Order) (qs : List Call) (rs : List Answer) (q : Call) (r : Answer) → length qs ≡ length rs → AllMade os qs rs
+pub all_made_push : (os : List Order) (qs : List Call) (rs : List (Result Answer Declined)) (q : Call) (r : Result Answer Declined) → length qs ≡ length rs → AllMade os qs rs
     → is_none r ≡ lacks (orders_left os qs rs) q → AllMade os (qs ++ q ∷ []) (rs ++ r ∷ [])
 all_made_push os [] [] q r e h m = (m, tt)
 all_made_push os [] (y ∷ rs) q r e h m = absurd (omega arith)

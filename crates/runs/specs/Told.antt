@@ -1,6 +1,8 @@
 -- What the calls and answers of a run tell of its volume.
-use Rattle.std.specs.Prelude.{◌≡◌, ℕ, Bool, true, false, cond, not, List, [], ◌∷◌, ◌++◌, map, reverse, length, vec_items, nat_lt, slice_index_or}
+use Rattle.std.specs.Prelude.{◌≡◌, ℕ, Bool, true, false, cond, not, List, [], ◌∷◌, ◌++◌, map, reverse, length, vec_items, nat_lt, slice_index_or, Ok, Err, Result}
 use Rattle.std.specs.List.{remove}
+use Rattle.bank.specs.declared.Bank.{Ghosts as Bank}
+use Rattle.code.specs.declared.Code.{Ghosts as Code}
 use Rattle.contents.specs.Refusals.{told}
 use Rattle.contents.specs.Shapes.{Shape}
 use Rattle.history.specs.Calls as calls
@@ -10,16 +12,18 @@ use Rattle.history.specs.Calls.Answer.{done, bytes, number, counts, order, refus
 use Rattle.history.specs.History.{Event, Kept}
 use Rattle.volume.specs.declared.volume.Volume.{Volume}
 use Rattle.volume.specs.declared.volume.rebuilds.Order.{Order}
-use Rattle.volume.specs.Volumes.{Means, members, records}
+use Rattle.volume.specs.Volumes.{members, records}
 use Rattle.runs.specs.declared.Call.{Call}
 use Rattle.runs.specs.declared.Call.TheVariants.{Tick, Read, Write, Scrub, Replace, Open, Step, Close, Margin}
 use Rattle.runs.specs.declared.Answer as answer
 use Rattle.runs.specs.declared.Answer.{Answer}
-use Rattle.runs.specs.declared.Answer.TheVariants.{Done, Block, Number, Counts, Refused, NoOrder}
+use Rattle.runs.specs.declared.Answer.TheVariants.{Done, Block, Number, Counts}
+use Rattle.runs.specs.declared.Declined.{Declined}
+use Rattle.runs.specs.declared.Declined.TheVariants.{Refused, NoOrder}
 
 -- what of a volume changes
-abbrev pub state : {C L B : Type 0} → Means C L B → Volume C L B → State
-state m v = record { members = members m v; records = records m v }
+abbrev pub state : {C L B : Type 0} {K : Code C} → Bank B → Volume C L B K → State
+state B v = record { members = members B v; records = records v }
 
 -- the slot that the order in place k is for
 abbrev pub slot_at : List Order → ℕ → ℕ
@@ -37,15 +41,22 @@ call_of os (Step k) = step (slot_at os k)
 call_of os (Close k) = close (slot_at os k)
 call_of os Margin = margin
 
+-- an answer of the volume, and a refusal of it or nothing where no call was made
+abbrev pub answer_told : Answer → calls.Answer
+answer_told Done = done
+answer_told (Block b) = bytes b
+answer_told (Number n) = number n
+answer_told (Counts x y z) = counts x y z
+answer_told (answer.TheVariants.Order i) = order i
+
+abbrev pub declined_told : Declined → List calls.Answer
+declined_told (Refused e) = refused (told e) ∷ []
+declined_told NoOrder = []
+
 -- the answer of the call, if one was made
-abbrev pub answer_of : Answer → List calls.Answer
-answer_of Done = done ∷ []
-answer_of (Block b) = bytes b ∷ []
-answer_of (Number n) = number n ∷ []
-answer_of (Counts x y z) = counts x y z ∷ []
-answer_of (answer.TheVariants.Order i) = order i ∷ []
-answer_of (Refused e) = refused (told e) ∷ []
-answer_of NoOrder = []
+abbrev pub answer_of : Result Answer Declined → List calls.Answer
+answer_of (Ok a) = answer_told a ∷ []
+answer_of (Err d) = declined_told d
 
 -- a call with its answer, as an event
 abbrev pub event : calls.Call → calls.Answer → List Event
@@ -56,7 +67,7 @@ event_with q [] = []
 event_with q (r ∷ rs) = event q r
 
 -- what is added to the history: the call that was made and its answer, or nothing where there was no such order
-abbrev pub event_of : List Order → Call → Answer → List Event
+abbrev pub event_of : List Order → Call → Result Answer Declined → List Event
 event_of os q r = event_with (call_of os q) (answer_of r)
 
 -- the orders at hand after it: an order that was handed out comes last, one that was used up is gone
@@ -66,16 +77,18 @@ with_order os (Block b) = os
 with_order os (Number n) = os
 with_order os (Counts x y z) = os
 with_order os (answer.TheVariants.Order i) = os ++ record { slot = i } ∷ []
-with_order os (Refused e) = os
-with_order os NoOrder = os
 
-abbrev pub orders_after : List Order → Call → Answer → List Order
+abbrev pub with_answer : List Order → Result Answer Declined → List Order
+with_answer os (Ok a) = with_order os a
+with_answer os (Err d) = os
+
+abbrev pub orders_after : List Order → Call → Result Answer Declined → List Order
 orders_after os Tick r = os
 orders_after os (Read a len) r = os
 orders_after os (Write a v) r = os
 orders_after os (Scrub s) r = os
 orders_after os (Replace i) r = os
-orders_after os (Open i) r = with_order os r
+orders_after os (Open i) r = with_answer os r
 orders_after os (Step k) r = os
 orders_after os (Close k) r = cond (nat_lt k (length os)) (remove os k) os
 orders_after os Margin r = os
@@ -93,29 +106,28 @@ lacks os (Close k) = not (nat_lt k (length os))
 lacks os Margin = false
 
 -- the answer is that there is no order
-abbrev pub is_none : Answer → Bool
-is_none Done = false
-is_none (Block b) = false
-is_none (Number n) = false
-is_none (Counts x y z) = false
-is_none (answer.TheVariants.Order i) = false
-is_none (Refused e) = false
-is_none NoOrder = true
+abbrev pub is_no_order : Declined → Bool
+is_no_order (Refused e) = false
+is_no_order NoOrder = true
+
+abbrev pub is_none : Result Answer Declined → Bool
+is_none (Ok a) = false
+is_none (Err d) = is_no_order d
 
 -- every call of a run was made, but for those that lack their order
-abbrev pub AllMade : List Order → List Call → List Answer → Type 0
+abbrev pub AllMade : List Order → List Call → List (Result Answer Declined) → Type 0
 AllMade os [] rs = Unit {0}
 AllMade os (q ∷ qs) [] = ⊥
 AllMade os (q ∷ qs) (r ∷ rs) = (is_none r ≡ lacks os q) × AllMade (orders_after os q r) qs rs
 
 -- the events of a run of calls with these answers, the orders at hand going on from call to call
-abbrev pub events : List Order → List Call → List Answer → List Event
+abbrev pub events : List Order → List Call → List (Result Answer Declined) → List Event
 events os [] rs = []
 events os (q ∷ qs) [] = []
 events os (q ∷ qs) (r ∷ rs) = event_of os q r ++ events (orders_after os q r) qs rs
 
 -- and the orders at hand after all of them
-abbrev pub orders_left : List Order → List Call → List Answer → List Order
+abbrev pub orders_left : List Order → List Call → List (Result Answer Declined) → List Order
 orders_left os [] rs = os
 orders_left os (q ∷ qs) [] = os
 orders_left os (q ∷ qs) (r ∷ rs) = orders_left (orders_after os q r) qs rs

@@ -1,14 +1,15 @@
-// Single calls on a volume: its own, with what each adds to its history.
-ghost use Rattle.std.specs.Prelude.{◌≡◌, length, is_ok, IfOk, if◌then◌else◌};
+// Single calls on a volume of any code, layout and bank, with what each adds to its history.
+ghost use Rattle.std.specs.Prelude.{◌≡◌, ℕ, length, is_ok, IfOk, if◌then◌else◌};
 ghost use Rattle.contents.specs.Refusals.{outcome};
-ghost use Rattle.history.specs.Calls.{answered, Makes};
+ghost use Rattle.history.specs.Calls.{State, answered, Makes};
 ghost use Rattle.history.specs.Calls.Call.{tick as ticks, read as reads, write as writes, scrub as scrubs, replace as replaces, open_slot as opens, step as steps, close as closes, margin as asks};
 ghost use Rattle.history.specs.Calls.Answer.{done, bytes as block_of, number, counts, order as order_for};
-ghost use Rattle.contents.specs.Shapes.{Roomy};
+ghost use Rattle.contents.specs.Records.{frontiers};
+ghost use Rattle.contents.specs.Shapes.{Shape, Roomy};
 ghost use Rattle.contents.specs.Answers.{read_leaves};
 ghost use Rattle.contents.specs.Rebuilds.{fault_of, step_fault};
 ghost use Rattle.volume.specs.Turns.{in_turn};
-ghost use Rattle.volume.specs.Volumes.{means, shape, members, frontiers, ordered};
+ghost use Rattle.volume.specs.Volumes.{shape, ordered};
 ghost use Rattle.runs.specs.Told.{state, event, GoesOn};
 
 use bank::Bank;
@@ -18,110 +19,135 @@ use layout::Layout;
 use volume::volume::Volume;
 use volume::volume::rebuilds::Order;
 
-// Lets one unit of time pass.
-pub fn tick<C: Code, L: Layout, B: Bank>(volume: &mut Volume<C, L, B>)
-    ensures exact { B.Bank.state volume.new.bank ≡ in_turn B.Bank.ticked (shape (means C.Code.coding L.Layout.slot L.Layout.column B.Bank.state B.Bank.meaning) volume.old).slots (B.Bank.state volume.old.bank) }
-    ensures same { (shape (means C.Code.coding L.Layout.slot L.Layout.column B.Bank.state B.Bank.meaning) volume.new) ≡ (shape (means C.Code.coding L.Layout.slot L.Layout.column B.Bank.state B.Bank.meaning) volume.old) }
-    ensures makes { Makes (shape (means C.Code.coding L.Layout.slot L.Layout.column B.Bank.state B.Bank.meaning) volume.old) (state (means C.Code.coding L.Layout.slot L.Layout.column B.Bank.state B.Bank.meaning) volume.old) ticks done (state (means C.Code.coding L.Layout.slot L.Layout.column B.Bank.state B.Bank.meaning) volume.new) }
-    ensures goes { GoesOn (shape (means C.Code.coding L.Layout.slot L.Layout.column B.Bank.state B.Bank.meaning) volume.old) (state (means C.Code.coding L.Layout.slot L.Layout.column B.Bank.state B.Bank.meaning) volume.old) (event ticks done) (state (means C.Code.coding L.Layout.slot L.Layout.column B.Bank.state B.Bank.meaning) volume.new) }
-{
-    volume.tick();
+// A volume, by what its calls answer and change.
+pub trait AnyVolume {
+    // What no call changes, and what calls change.
+    ghost shape: { Self → Shape };
+
+    ghost state: { Self → State };
+
+    // What its bank is made of, and what a tick of a slot and a fresh member in a slot make of that.
+    ghost Banked: { Type 0 };
+
+    ghost banked: { Self → Banked };
+
+    ghost ticked: { Banked → ℕ → Banked };
+
+    ghost renewed: { Banked → ℕ → Banked };
+
+    // Lets one unit of time pass.
+    fn tick(&mut self)
+        ensures exact { banked self.new ≡ in_turn ticked (shape self.old).slots (banked self.old) }
+        ensures same { shape self.new ≡ shape self.old }
+        ensures makes { Makes (shape self.old) (state self.old) ticks done (state self.new) }
+        ensures goes { GoesOn (shape self.old) (state self.old) (event ticks done) (state self.new) };
+
+    // Reads a block into a buffer.
+    fn read(&mut self, block: usize, buffer: &mut [u8]) -> Result<(), Refusal>
+        ensures after { buffer.new ≡ read_leaves (shape self.old) (state self.old).members (frontiers (state self.old).records) block buffer.old }
+        ensures same { shape self.new ≡ shape self.old }
+        ensures makes { Makes (shape self.old) (state self.old) (reads block (length buffer.old)) (answered (λ _. block_of buffer.new) (outcome result)) (state self.new) }
+        ensures goes { GoesOn (shape self.old) (state self.old) (event (reads block (length buffer.old)) (answered (λ _. block_of buffer.new) (outcome result))) (state self.new) };
+
+    // Gives a block these bytes.
+    fn write(&mut self, block: usize, bytes: &[u8]) -> Result<usize, Refusal>
+        ensures same { shape self.new ≡ shape self.old }
+        ensures makes { Makes (shape self.old) (state self.old) (writes block bytes.now) (answered number (outcome result)) (state self.new) }
+        ensures goes { GoesOn (shape self.old) (state self.old) (event (writes block bytes.now) (answered number (outcome result))) (state self.new) };
+
+    // Writes the unreadable columns of a stripe anew.
+    fn scrub(&mut self, stripe: usize) -> Result<(usize, usize, usize), Refusal>
+        ensures same { shape self.new ≡ shape self.old }
+        ensures makes { Makes (shape self.old) (state self.old) (scrubs stripe) (answered (λ x. counts x.0 x.1 x.2) (outcome result)) (state self.new) }
+        ensures goes { GoesOn (shape self.old) (state self.old) (event (scrubs stripe) (answered (λ x. counts x.0 x.1 x.2) (outcome result))) (state self.new) };
+
+    // Puts a fresh member in the place of a slot's.
+    fn replace(&mut self, slot: usize) -> Result<(), Refusal>
+        ensures exact { banked self.new ≡ (if is_ok result then renewed (banked self.old) slot else banked self.old) }
+        ensures same { shape self.new ≡ shape self.old }
+        ensures makes { Makes (shape self.old) (state self.old) (replaces slot) (answered (λ _. done) (outcome result)) (state self.new) }
+        ensures goes { GoesOn (shape self.old) (state self.old) (event (replaces slot) (answered (λ _. done) (outcome result))) (state self.new) };
+
+    // Opens a slot to be rebuilt, and hands out the order for it.
+    fn open(&mut self, slot: usize) -> Result<Order, Refusal>
+        ensures order { IfOk result (λ o. o.slot ≡ slot) }
+        ensures same { shape self.new ≡ shape self.old }
+        ensures makes { Makes (shape self.old) (state self.old) (opens slot) (answered order_for (ordered result)) (state self.new) }
+        ensures goes { GoesOn (shape self.old) (state self.old) (event (opens slot) (answered order_for (ordered result))) (state self.new) };
+
+    // Rebuilds one more stripe of the order's slot.
+    fn step(&mut self, order: &Order) -> Result<usize, Refusal>
+        ensures same { shape self.new ≡ shape self.old }
+        ensures makes { Roomy (shape self.old) (state self.old).members → Makes (shape self.old) (state self.old) (steps order.now.slot) (answered number (outcome result)) (state self.new) }
+        ensures fault { Roomy (shape self.old) (state self.old).members → fault_of result ≡ step_fault (shape self.old) (state self.old).members (state self.old).records order.now.slot }
+        ensures goes { GoesOn (shape self.old) (state self.old) (event (steps order.now.slot) (answered number (outcome result))) (state self.new) };
+
+    // Ends the rebuild of the order's slot. The order is used up.
+    fn close(&mut self, order: Order) -> Result<usize, Refusal>
+        ensures same { shape self.new ≡ shape self.old }
+        ensures makes { Makes (shape self.old) (state self.old) (closes order.slot) (answered number (outcome result)) (state self.new) }
+        ensures goes { GoesOn (shape self.old) (state self.old) (event (closes order.slot) (answered number (outcome result))) (state self.new) };
+
+    // How many more slots may be lost.
+    fn margin(&self) -> usize
+        ensures makes { Makes (shape self.now) (state self.now) asks (number result) (state self.now) }
+        ensures goes { GoesOn (shape self.now) (state self.now) (event asks (number result)) (state self.now) };
+
+    // How many stripes there are.
+    fn stripes(&self) -> usize
+        ensures value { result ≡ (shape self.now).stripes };
 }
 
-// Reads a block into a buffer.
-pub fn read<C: Code, L: Layout, B: Bank>(
-    volume: &mut Volume<C, L, B>,
-    block: usize,
-    buffer: &mut [u8],
-) -> Result<(), Refusal>
-    ensures after { buffer.new ≡ read_leaves (shape (means C.Code.coding L.Layout.slot L.Layout.column B.Bank.state B.Bank.meaning) volume.old) (members (means C.Code.coding L.Layout.slot L.Layout.column B.Bank.state B.Bank.meaning) volume.old) (frontiers (means C.Code.coding L.Layout.slot L.Layout.column B.Bank.state B.Bank.meaning) volume.old) block buffer.old }
-    ensures same { (shape (means C.Code.coding L.Layout.slot L.Layout.column B.Bank.state B.Bank.meaning) volume.new) ≡ (shape (means C.Code.coding L.Layout.slot L.Layout.column B.Bank.state B.Bank.meaning) volume.old) }
-    ensures makes { Makes (shape (means C.Code.coding L.Layout.slot L.Layout.column B.Bank.state B.Bank.meaning) volume.old) (state (means C.Code.coding L.Layout.slot L.Layout.column B.Bank.state B.Bank.meaning) volume.old) (reads block (length buffer.old)) (answered (λ _. block_of buffer.new) (outcome result)) (state (means C.Code.coding L.Layout.slot L.Layout.column B.Bank.state B.Bank.meaning) volume.new) }
-    ensures goes { GoesOn (shape (means C.Code.coding L.Layout.slot L.Layout.column B.Bank.state B.Bank.meaning) volume.old) (state (means C.Code.coding L.Layout.slot L.Layout.column B.Bank.state B.Bank.meaning) volume.old) (event (reads block (length buffer.old)) (answered (λ _. block_of buffer.new) (outcome result))) (state (means C.Code.coding L.Layout.slot L.Layout.column B.Bank.state B.Bank.meaning) volume.new) }
-{
-    volume.read(block, buffer)
-}
+impl<C: Code, L: Layout, B: Bank> AnyVolume for Volume<C, L, B> {
+    ghost shape = { shape C.Code L.Layout };
 
-// Gives a block these bytes.
-pub fn write<C: Code, L: Layout, B: Bank>(
-    volume: &mut Volume<C, L, B>,
-    block: usize,
-    bytes: &[u8],
-) -> Result<usize, Refusal>
-    ensures same { (shape (means C.Code.coding L.Layout.slot L.Layout.column B.Bank.state B.Bank.meaning) volume.new) ≡ (shape (means C.Code.coding L.Layout.slot L.Layout.column B.Bank.state B.Bank.meaning) volume.old) }
-    ensures makes { Makes (shape (means C.Code.coding L.Layout.slot L.Layout.column B.Bank.state B.Bank.meaning) volume.old) (state (means C.Code.coding L.Layout.slot L.Layout.column B.Bank.state B.Bank.meaning) volume.old) (writes block bytes.now) (answered number (outcome result)) (state (means C.Code.coding L.Layout.slot L.Layout.column B.Bank.state B.Bank.meaning) volume.new) }
-    ensures goes { GoesOn (shape (means C.Code.coding L.Layout.slot L.Layout.column B.Bank.state B.Bank.meaning) volume.old) (state (means C.Code.coding L.Layout.slot L.Layout.column B.Bank.state B.Bank.meaning) volume.old) (event (writes block bytes.now) (answered number (outcome result))) (state (means C.Code.coding L.Layout.slot L.Layout.column B.Bank.state B.Bank.meaning) volume.new) }
-{
-    volume.write(block, bytes)
-}
+    ghost state = { state B.Bank };
 
-// Writes the unreadable columns of a stripe anew.
-pub fn scrub<C: Code, L: Layout, B: Bank>(
-    volume: &mut Volume<C, L, B>,
-    stripe: usize,
-) -> Result<(usize, usize, usize), Refusal>
-    ensures same { (shape (means C.Code.coding L.Layout.slot L.Layout.column B.Bank.state B.Bank.meaning) volume.new) ≡ (shape (means C.Code.coding L.Layout.slot L.Layout.column B.Bank.state B.Bank.meaning) volume.old) }
-    ensures makes { Makes (shape (means C.Code.coding L.Layout.slot L.Layout.column B.Bank.state B.Bank.meaning) volume.old) (state (means C.Code.coding L.Layout.slot L.Layout.column B.Bank.state B.Bank.meaning) volume.old) (scrubs stripe) (answered (λ x. counts x.0 x.1 x.2) (outcome result)) (state (means C.Code.coding L.Layout.slot L.Layout.column B.Bank.state B.Bank.meaning) volume.new) }
-    ensures goes { GoesOn (shape (means C.Code.coding L.Layout.slot L.Layout.column B.Bank.state B.Bank.meaning) volume.old) (state (means C.Code.coding L.Layout.slot L.Layout.column B.Bank.state B.Bank.meaning) volume.old) (event (scrubs stripe) (answered (λ x. counts x.0 x.1 x.2) (outcome result))) (state (means C.Code.coding L.Layout.slot L.Layout.column B.Bank.state B.Bank.meaning) volume.new) }
-{
-    volume.scrub(stripe)
-}
+    ghost Banked = { B.Bank.State };
 
-// Puts a fresh member in the place of a slot's.
-pub fn replace<C: Code, L: Layout, B: Bank>(
-    volume: &mut Volume<C, L, B>,
-    slot: usize,
-) -> Result<(), Refusal>
-    ensures exact { B.Bank.state volume.new.bank ≡ (if is_ok result then B.Bank.renewed (B.Bank.state volume.old.bank) slot else B.Bank.state volume.old.bank) }
-    ensures same { (shape (means C.Code.coding L.Layout.slot L.Layout.column B.Bank.state B.Bank.meaning) volume.new) ≡ (shape (means C.Code.coding L.Layout.slot L.Layout.column B.Bank.state B.Bank.meaning) volume.old) }
-    ensures makes { Makes (shape (means C.Code.coding L.Layout.slot L.Layout.column B.Bank.state B.Bank.meaning) volume.old) (state (means C.Code.coding L.Layout.slot L.Layout.column B.Bank.state B.Bank.meaning) volume.old) (replaces slot) (answered (λ _. done) (outcome result)) (state (means C.Code.coding L.Layout.slot L.Layout.column B.Bank.state B.Bank.meaning) volume.new) }
-    ensures goes { GoesOn (shape (means C.Code.coding L.Layout.slot L.Layout.column B.Bank.state B.Bank.meaning) volume.old) (state (means C.Code.coding L.Layout.slot L.Layout.column B.Bank.state B.Bank.meaning) volume.old) (event (replaces slot) (answered (λ _. done) (outcome result))) (state (means C.Code.coding L.Layout.slot L.Layout.column B.Bank.state B.Bank.meaning) volume.new) }
-{
-    volume.replace(slot)
-}
+    ghost banked = { λ v. B.Bank.state v.bank };
 
-// Opens a slot to be rebuilt, and hands out the order for it.
-pub fn open<C: Code, L: Layout, B: Bank>(
-    volume: &mut Volume<C, L, B>,
-    slot: usize,
-) -> Result<Order, Refusal>
-    ensures order { IfOk result (λ o. o.slot ≡ slot) }
-    ensures same { (shape (means C.Code.coding L.Layout.slot L.Layout.column B.Bank.state B.Bank.meaning) volume.new) ≡ (shape (means C.Code.coding L.Layout.slot L.Layout.column B.Bank.state B.Bank.meaning) volume.old) }
-    ensures makes { Makes (shape (means C.Code.coding L.Layout.slot L.Layout.column B.Bank.state B.Bank.meaning) volume.old) (state (means C.Code.coding L.Layout.slot L.Layout.column B.Bank.state B.Bank.meaning) volume.old) (opens slot) (answered order_for (ordered result)) (state (means C.Code.coding L.Layout.slot L.Layout.column B.Bank.state B.Bank.meaning) volume.new) }
-    ensures goes { GoesOn (shape (means C.Code.coding L.Layout.slot L.Layout.column B.Bank.state B.Bank.meaning) volume.old) (state (means C.Code.coding L.Layout.slot L.Layout.column B.Bank.state B.Bank.meaning) volume.old) (event (opens slot) (answered order_for (ordered result))) (state (means C.Code.coding L.Layout.slot L.Layout.column B.Bank.state B.Bank.meaning) volume.new) }
-{
-    volume.open(slot)
-}
+    ghost ticked = { B.Bank.ticked };
 
-// Rebuilds one more stripe of the order's slot.
-pub fn step<C: Code, L: Layout, B: Bank>(
-    volume: &mut Volume<C, L, B>,
-    order: &Order,
-) -> Result<usize, Refusal>
-    ensures same { (shape (means C.Code.coding L.Layout.slot L.Layout.column B.Bank.state B.Bank.meaning) volume.new) ≡ (shape (means C.Code.coding L.Layout.slot L.Layout.column B.Bank.state B.Bank.meaning) volume.old) }
-    ensures makes { Roomy (shape (means C.Code.coding L.Layout.slot L.Layout.column B.Bank.state B.Bank.meaning) volume.old) (state (means C.Code.coding L.Layout.slot L.Layout.column B.Bank.state B.Bank.meaning) volume.old).members → Makes (shape (means C.Code.coding L.Layout.slot L.Layout.column B.Bank.state B.Bank.meaning) volume.old) (state (means C.Code.coding L.Layout.slot L.Layout.column B.Bank.state B.Bank.meaning) volume.old) (steps order.now.slot) (answered number (outcome result)) (state (means C.Code.coding L.Layout.slot L.Layout.column B.Bank.state B.Bank.meaning) volume.new) }
-    ensures fault { Roomy (shape (means C.Code.coding L.Layout.slot L.Layout.column B.Bank.state B.Bank.meaning) volume.old) (state (means C.Code.coding L.Layout.slot L.Layout.column B.Bank.state B.Bank.meaning) volume.old).members → fault_of result ≡ step_fault (shape (means C.Code.coding L.Layout.slot L.Layout.column B.Bank.state B.Bank.meaning) volume.old) (state (means C.Code.coding L.Layout.slot L.Layout.column B.Bank.state B.Bank.meaning) volume.old).members (state (means C.Code.coding L.Layout.slot L.Layout.column B.Bank.state B.Bank.meaning) volume.old).records order.now.slot }
-    ensures goes { GoesOn (shape (means C.Code.coding L.Layout.slot L.Layout.column B.Bank.state B.Bank.meaning) volume.old) (state (means C.Code.coding L.Layout.slot L.Layout.column B.Bank.state B.Bank.meaning) volume.old) (event (steps order.now.slot) (answered number (outcome result))) (state (means C.Code.coding L.Layout.slot L.Layout.column B.Bank.state B.Bank.meaning) volume.new) }
-{
-    volume.step(order)
-}
+    ghost renewed = { B.Bank.renewed };
 
-// Ends the rebuild of the order's slot. The order is used up.
-pub fn close<C: Code, L: Layout, B: Bank>(
-    volume: &mut Volume<C, L, B>,
-    order: Order,
-) -> Result<usize, Refusal>
-    ensures same { (shape (means C.Code.coding L.Layout.slot L.Layout.column B.Bank.state B.Bank.meaning) volume.new) ≡ (shape (means C.Code.coding L.Layout.slot L.Layout.column B.Bank.state B.Bank.meaning) volume.old) }
-    ensures makes { Makes (shape (means C.Code.coding L.Layout.slot L.Layout.column B.Bank.state B.Bank.meaning) volume.old) (state (means C.Code.coding L.Layout.slot L.Layout.column B.Bank.state B.Bank.meaning) volume.old) (closes order.slot) (answered number (outcome result)) (state (means C.Code.coding L.Layout.slot L.Layout.column B.Bank.state B.Bank.meaning) volume.new) }
-    ensures goes { GoesOn (shape (means C.Code.coding L.Layout.slot L.Layout.column B.Bank.state B.Bank.meaning) volume.old) (state (means C.Code.coding L.Layout.slot L.Layout.column B.Bank.state B.Bank.meaning) volume.old) (event (closes order.slot) (answered number (outcome result))) (state (means C.Code.coding L.Layout.slot L.Layout.column B.Bank.state B.Bank.meaning) volume.new) }
-{
-    volume.close(order)
-}
+    fn tick(&mut self) {
+        Volume::tick(self);
+    }
 
-// How many more slots may be lost.
-pub fn margin<C: Code, L: Layout, B: Bank>(volume: &Volume<C, L, B>) -> usize
-    ensures makes { Makes (shape (means C.Code.coding L.Layout.slot L.Layout.column B.Bank.state B.Bank.meaning) volume.now) (state (means C.Code.coding L.Layout.slot L.Layout.column B.Bank.state B.Bank.meaning) volume.now) asks (number result) (state (means C.Code.coding L.Layout.slot L.Layout.column B.Bank.state B.Bank.meaning) volume.now) }
-    ensures goes { GoesOn (shape (means C.Code.coding L.Layout.slot L.Layout.column B.Bank.state B.Bank.meaning) volume.now) (state (means C.Code.coding L.Layout.slot L.Layout.column B.Bank.state B.Bank.meaning) volume.now) (event asks (number result)) (state (means C.Code.coding L.Layout.slot L.Layout.column B.Bank.state B.Bank.meaning) volume.now) }
-{
-    volume.margin()
+    fn read(&mut self, block: usize, buffer: &mut [u8]) -> Result<(), Refusal> {
+        Volume::read(self, block, buffer)
+    }
+
+    fn write(&mut self, block: usize, bytes: &[u8]) -> Result<usize, Refusal> {
+        Volume::write(self, block, bytes)
+    }
+
+    fn scrub(&mut self, stripe: usize) -> Result<(usize, usize, usize), Refusal> {
+        Volume::scrub(self, stripe)
+    }
+
+    fn replace(&mut self, slot: usize) -> Result<(), Refusal> {
+        Volume::replace(self, slot)
+    }
+
+    fn open(&mut self, slot: usize) -> Result<Order, Refusal> {
+        Volume::open(self, slot)
+    }
+
+    fn step(&mut self, order: &Order) -> Result<usize, Refusal> {
+        Volume::step(self, order)
+    }
+
+    fn close(&mut self, order: Order) -> Result<usize, Refusal> {
+        Volume::close(self, order)
+    }
+
+    fn margin(&self) -> usize {
+        Volume::margin(self)
+    }
+
+    fn stripes(&self) -> usize {
+        Volume::stripes(self)
+    }
 }

@@ -1,16 +1,9 @@
 -- What the numbers of a script stand for.
-use Rattle.std.specs.Prelude.{ℕ, ◌%◌, cond, ◌==◌}
-use Rattle.script.specs.declared.parts.CodeName.{CodeName}
-use Rattle.script.specs.declared.parts.CodeName.TheVariants.{Pq, Rdp, EvenOdd}
+use Rattle.std.specs.Prelude.{◌%◌, cond, ◌==◌}
 use Rattle.script.specs.declared.parts.Act.{Act}
 use Rattle.script.specs.declared.parts.Act.TheVariants.{Tick, Read, Write, Scrub, Replace, Rebuild, Unknown}
 use Rattle.script.specs.declared.parts.Operation.{Operation}
-
--- the number of each code
-abbrev pub code_number : CodeName → ℕ
-code_number Pq = 0
-code_number Rdp = 1
-code_number EvenOdd = 2
+pub use Rattle.notation.specs.Codes.{code_number}
 
 -- 0 tick; 1 read x; 2 write x, filled with y mod 256; 3 scrub x; 4 replace x; 5 open x for at most y steps; others are unknown
 abbrev pub act_of : Operation → Act

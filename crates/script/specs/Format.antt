@@ -2,10 +2,7 @@
 use Rattle.std.specs.Prelude.{ℕ, ◌+◌, ◌*◌, Bool, cond, ◌&&◌, List, length, Some, None, Option, ◌==◌, nat_le, nat_lt, slice_index}
 use Rattle.script.specs.declared.parts.Entry.{Entry}
 use Rattle.script.specs.declared.parts.Operation.{Operation}
-
--- the 16-bit little-endian number at place i; bytes past the end count as 0
-abbrev pub number_at : List ℕ → ℕ → ℕ
-number_at xs i = slice_index xs i + 256 * slice_index xs (i + 1)
+pub use Rattle.notation.specs.Numbers.{number_at}
 
 -- A script begins with three numbers: how many entries it has, how many operations, and its code.
 abbrev pub entry_count : List ℕ → ℕ

@@ -1,11 +1,13 @@
 // The text that a replay writes.
-ghost use Rattle.std.specs.Prelude.{◌≡◌, ◌++◌, IfOk, string_bytes, OnOk};
-ghost use Rattle.script.specs.Text.{line_text, bad_script};
+ghost use Rattle.std.specs.Prelude.{◌≡◌, ◌++◌, IfOk, Some, string_bytes, OnOk};
+ghost use Rattle.script.specs.Text.{line_words, line_text, bad_script};
 
+use crate::source::BadScript;
 use std::alloc::{AllocError, Global};
+use std::fmt;
 
 // What is written of an operation: where it stands in the script, its number, its refusal or 0, and its value.
-#[derive(Clone, Copy)]
+#[derive(Clone, Copy, PartialEq, Eq, Debug)]
 pub struct Line {
     pub position: usize,
     pub operation: u8,
@@ -13,23 +15,28 @@ pub struct Line {
     pub value: usize,
 }
 
+impl fmt::Display for Line {
+    ghost output = { λ line. Some (line_words line) };
+
+    fn fmt<W: fmt::Write>(&self, f: &mut fmt::Formatter<W>) -> fmt::Result {
+        let position = self.position;
+        let operation = self.operation;
+        let refusal = self.refusal;
+        let value = self.value;
+        write!(f, "{position} {operation} {refusal} {value}")
+    }
+}
+
 // Appends a line. Without memory for it an error is answered, and what the text then holds is left free.
 pub fn push_line(out: &mut String, line: Line) -> Result<(), AllocError>
     ensures made { OnOk result (string_bytes out.new ≡ string_bytes out.old ++ line_text line) }
 {
-    let position = line.position;
-    let operation = line.operation;
-    let refusal = line.refusal;
-    let value = line.value;
-    match writeln!(out, "{position} {operation} {refusal} {value}") {
-        Ok(()) => Ok(()),
-        Err(_) => Err(AllocError),
-    }
+    writeln!(out, "{line}")
 }
 
 // All that is written of what is no script.
 pub fn bad_script(heap: Global) -> Result<String, AllocError>
     ensures made { IfOk result (λ s. string_bytes s ≡ bad_script) }
 {
-    String::from_str(heap, "bad script\n")
+    format!(in heap; "{BadScript}\n")
 }

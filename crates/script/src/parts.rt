@@ -1,17 +1,12 @@
 // What a script is made of.
 ghost use Rattle.std.specs.Prelude.{◌≡◌};
-ghost use Rattle.script.specs.Acts.{code_number, act_of};
+ghost use Rattle.script.specs.Acts.{act_of};
 
 // The code that a volume is to have.
-#[derive(Clone, Copy)]
-pub enum CodeName {
-    Pq,
-    Rdp,
-    EvenOdd,
-}
+pub use notation::codes::CodeName;
 
 // A fault that is planned for the member in a slot.
-#[derive(Clone, Copy)]
+#[derive(Clone, Copy, PartialEq, Eq, Debug)]
 pub struct Entry {
     pub kind: u8,
     pub round: usize,
@@ -19,8 +14,8 @@ pub struct Entry {
     pub block: usize,
 }
 
-// An operation as the script has it.
-#[derive(Clone, Copy)]
+// An operation as the script has it. Its number may be that of no act: the line of an operation has it as it stands.
+#[derive(Clone, Copy, PartialEq, Eq, Debug)]
 pub struct Operation {
     pub number: u8,
     pub x: usize,
@@ -28,7 +23,7 @@ pub struct Operation {
 }
 
 // What an operation asks for.
-#[derive(Clone, Copy)]
+#[derive(Clone, Copy, PartialEq, Eq, Debug)]
 pub enum Act {
     Tick,
     // of a block
@@ -44,31 +39,17 @@ pub enum Act {
     Unknown,
 }
 
-impl CodeName {
-    // The number by which the code is known.
-    pub fn number(self) -> u8
-        ensures value { result ≡ code_number self }
-    {
-        match self {
-            CodeName::Pq => 0,
-            CodeName::Rdp => 1,
-            CodeName::EvenOdd => 2,
-        }
-    }
-}
+impl From<Operation> for Act {
+    ghost from_gives = { λ operation act. act ≡ act_of operation };
 
-impl Operation {
-    // What is to be done.
-    pub fn act(self) -> Act
-        ensures value { result ≡ act_of self }
-    {
-        match self.number {
+    fn from(operation: Operation) -> Act {
+        match operation.number {
             0 => Act::Tick,
-            1 => Act::Read(self.x),
-            2 => Act::Write(self.x, (self.y % 256) as u8),
-            3 => Act::Scrub(self.x),
-            4 => Act::Replace(self.x),
-            5 => Act::Rebuild(self.x, self.y),
+            1 => Act::Read(operation.x),
+            2 => Act::Write(operation.x, (operation.y % 256) as u8),
+            3 => Act::Scrub(operation.x),
+            4 => Act::Replace(operation.x),
+            5 => Act::Rebuild(operation.x, operation.y),
             _ => Act::Unknown,
         }
     }

@@ -1,6 +1,4 @@
 use Rattle.std.proofs.Common.{◌≡◌, ℕ, vec_items, string_bytes, refl, ◌∙◌, subst, arith}
-use Rattle.volume.specs.Volumes.{means, shape}
-use Rattle.runs.specs.Told.{state}
 use Rattle.recorder.specs.Runs.{RanOn}
 use Rattle.recorder.proofs.Running.{ran_none, ran_more}
 use Rattle.recorder.proofs.lines.Goals as goal
@@ -15,8 +13,8 @@ loop-i-preserved g c =
 
 pub returns : goal.returns
 returns g c =
-    let m = means g.C.Code.coding g.L.Layout.slot g.L.Layout.column g.B.Bank.state g.B.Bank.meaning in
+    let any = g.V.AnyVolume in
     let v = c.args.volume in
     let n : c.loop-i.i ≡ c.operations-i-end.result = omega arith in
-    let P : ℕ → Type 0 = λ i. RanOn (shape m v) (vec_items c.args.script.now.bytes) i (state m v) (state m c.loop-i.volume) (string_bytes c.loop-i.out) in
-    record { made = record { left = state m c.loop-i.volume; ran = subst P (n ∙ c.operations-i-end.ensures.value) c.loop-i.invariant.1 } }
+    let P : ℕ → Type 0 = λ i. RanOn (any.shape v) (vec_items c.args.script.now.bytes) i (any.state v) (any.state c.loop-i.volume) (string_bytes c.loop-i.out) in
+    record { made = record { left = any.state c.loop-i.volume; ran = subst P (n ∙ c.operations-i-end.ensures.value) c.loop-i.invariant.1 } }

@@ -1,31 +1,18 @@
-use Rattle.std.proofs.Common.{List, sym, refl, ap, ◌∙◌, subst}
-use Rattle.std.proofs.lemmas.Bool.{cond-false, ne_eqb}
-use Rattle.contents.specs.Records.{frontiers}
-use Rattle.contents.specs.Shapes.{stripe_of, column_of, recovered_at}
-use Rattle.history.specs.Calls as calls
-use Rattle.history.specs.Calls.{answered}
+use Rattle.std.proofs.Common.{refl, rules}
+use Rattle.contents.specs.Refusals.{told}
 use Rattle.history.specs.Calls.Call.{read}
-use Rattle.history.specs.Calls.Answer.{done, bytes}
-use Rattle.volume.specs.Slots.{members_of}
-use Rattle.volume.specs.Volumes.{means, shape}
-use Rattle.runs.specs.Told.{state, event_with, GoesOn}
-use Rattle.runs.proofs.Going.{shape_same, records_same, no_bytes, goes}
+use Rattle.history.specs.Calls.Answer.{refused}
+use Rattle.runs.specs.Told.{event, GoesOn}
+use Rattle.runs.proofs.Going.{no_bytes, goes, unsized}
 use Rattle.runs.proofs.read_into.Goals as goal
 
-pub returns-then-len-ne-BLOCK : goal.returns-then-len-ne-BLOCK
-returns-then-len-ne-BLOCK g c =
-    let m = means g.C.Code.coding g.L.Layout.slot g.L.Layout.column g.B.Bank.state g.B.Bank.meaning in
+pub returns-in_err-read : goal.returns-in_err-read
+returns-in_err-read g c =
+    let any = g.V.AnyVolume in
     let v = c.args.volume.now in
     let w = c.read.new.self in
-    let k = c.read.ensures.kept in
-    let a = c.args.block in
-    let found = recovered_at (shape m v) (state m v).members (frontiers (state m v).records) (stripe_of (shape m v) a) (column_of (shape m v) a) in
-    record {
-      made = c.nothing.ensures.some;
-      same = shape_same m v w k.code k.layout k.size;
-      goes = subst (λ (rs : List calls.Answer). GoesOn (shape m v) (state m v) (event_with (read a c.args.len) rs) (state m w)) (sym c.nothing.ensures.value)
-          (goes (shape m v) (state m v) (state m w) (read a c.args.len) _ (no_bytes _ refl) (λ room. record {
-            answer = ap (answered (λ _. done)) c.read.ensures.answered ∙ sym (ap (answered (λ _. bytes found)) (cond-false _ _ _ (ne_eqb c.args.len 512 c.if-len-ne-BLOCK.true)));
-            changes = (ap members_of c.read.ensures.same, records_same m v w k.table);
-          }));
-    }
+    let q = read c.args.block c.args.len in
+    let r = refused (told c.in_err-read.field-0.0) in
+    let goes : GoesOn (any.shape v) (any.state v) (event q r) (any.state w) =
+    goes _ _ _ q r (no_bytes q refl) (λ _. unsized _ _ _ c.args.block c.args.len r c.if-len-ne-BLOCK.true c.in_err-read.ensures.makes) in
+    record { obeyed = record { same = c.read.ensures.same; goes = search rules; made = search rules } }

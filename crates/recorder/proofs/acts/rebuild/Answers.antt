@@ -1,51 +1,35 @@
-use Rattle.std.proofs.Common.{ℕ, Some, None, sym, ◌∙◌, subst}
-use Rattle.contents.specs.Refusals.{told, outcome}
-use Rattle.history.specs.Calls.{answered}
-use Rattle.history.specs.Calls.Answer.{number}
-use Rattle.script.specs.declared.parts.Act.TheVariants.{Rebuild}
-use Rattle.volume.specs.Volumes.{means, shape}
-use Rattle.runs.specs.Told.{state}
-use Rattle.recorder.specs.Acts.{ActsOn}
-use Rattle.recorder.proofs.Running.{rebuild_refused, rebuild_done}
+use Rattle.std.proofs.Common.{Some, None, refl}
+use Rattle.contents.specs.Refusals.{told}
+use Rattle.history.specs.Calls.Answer.{number, refused}
+use Rattle.recorder.proofs.Running.{refused_line_of, rebuild_refused, rebuild_done}
 use Rattle.recorder.proofs.acts.rebuild.Goals as goal
 
-pub returns-in-Err : goal.returns-in-Err
-returns-in-Err g c =
-    let m = means g.C.Code.coding g.L.Layout.slot g.L.Layout.column g.B.Bank.state g.B.Bank.meaning in
-    let v = c.args.volume.now in
-    let w = c.open.new.volume in
+pub returns-in_err-order : goal.returns-in_err-order
+returns-in_err-order g c =
+    let e = c.in_err-order.field-0.0 in
+    record { did = rebuild_refused g.V.AnyVolume c.args.volume.now c.open.new.self c.args.slot c.args.most e _ c.open.ensures.same (refused_line_of _ e c.from_residual.ensures) c.in_err-order.ensures.goes }
+
+pub returns-in_err-stepped : goal.returns-in_err-stepped
+returns-in_err-stepped g c =
+    let e = c.in_err-stepped.field-0.0 in
     record {
-      same = c.open.ensures.same;
-      acts = subst (λ (r : ℕ × ℕ). ActsOn (shape m v) (state m v) (Rebuild c.args.slot c.args.most) r (state m w)) (sym c.refused.ensures.value)
-          (rebuild_refused (shape m v) (state m v) (state m w) c.args.slot c.args.most (told c.in-Err.refusal) c.in-Err.ensures.goes);
+      did = rebuild_done g.V.AnyVolume c.args.volume.now c.open.new.self c.steps-stepped.new.volume c.close-closed.new.self c.args.slot c.args.most _ (Some (told e)) _ _
+          c.open.ensures.same c.steps-stepped.ensures.same c.close-closed.ensures.same c.in_ok-order.ensures.order (refused_line_of _ e c.from_residual-in_err-stepped.ensures)
+          c.in_ok-order.ensures.goes c.in_err-stepped.ensures.steps c.close-closed.ensures.goes;
     }
 
-pub returns-in-Some : goal.returns-in-Some
-returns-in-Some g c =
-    let m = means g.C.Code.coding g.L.Layout.slot g.L.Layout.column g.B.Bank.state g.B.Bank.meaning in
-    let v = c.args.volume.now in
-    let a = c.open.new.volume in
-    let b = c.steps-stopped.new.volume in
-    let d = c.close-closed.new.volume in
-    let s = c.open.ensures.same in
-    let t = c.steps-stopped.ensures.same ∙ s in
+pub returns-in_err-closed : goal.returns-in_err-closed
+returns-in_err-closed g c =
+    let e = c.in_err-closed.field-0.0 in
     record {
-      same = c.close-closed.ensures.same ∙ t;
-      acts = subst (λ (r : ℕ × ℕ). ActsOn (shape m v) (state m v) (Rebuild c.args.slot c.args.most) r (state m d)) (sym c.refused-in-Some.ensures.value)
-          (rebuild_done (shape m v) (shape m a) (shape m b) (state m v) (state m a) (state m b) (state m d) c.args.slot c.args.most c.in-Ok.order.slot (Some (told c.in-Some.refusal)) (answered number (outcome c.close-closed.result)) s t c.in-Ok.ensures.order c.in-Ok.ensures.goes c.in-Some.ensures.steps c.close-closed.ensures.goes);
+      did = rebuild_done g.V.AnyVolume c.args.volume.now c.open.new.self c.steps-stepped.new.volume c.close-closed.new.self c.args.slot c.args.most _ None (refused (told e)) _
+          c.open.ensures.same c.steps-stepped.ensures.same c.close-closed.ensures.same c.in_ok-order.ensures.order (refused_line_of _ e c.from_residual-in_err-closed.ensures)
+          c.in_ok-order.ensures.goes c.in_ok-stepped.ensures.steps c.in_err-closed.ensures.goes;
     }
 
-pub returns-in-None : goal.returns-in-None
-returns-in-None g c =
-    let m = means g.C.Code.coding g.L.Layout.slot g.L.Layout.column g.B.Bank.state g.B.Bank.meaning in
-    let v = c.args.volume.now in
-    let a = c.open.new.volume in
-    let b = c.steps-stopped.new.volume in
-    let d = c.close-closed.new.volume in
-    let s = c.open.ensures.same in
-    let t = c.steps-stopped.ensures.same ∙ s in
-    record {
-      same = c.close-closed.ensures.same ∙ t;
-      acts = subst (λ (r : ℕ × ℕ). ActsOn (shape m v) (state m v) (Rebuild c.args.slot c.args.most) r (state m d)) (sym c.numbered.ensures.value)
-          (rebuild_done (shape m v) (shape m a) (shape m b) (state m v) (state m a) (state m b) (state m d) c.args.slot c.args.most c.in-Ok.order.slot None (answered number (outcome c.close-closed.result)) s t c.in-Ok.ensures.order c.in-Ok.ensures.goes c.in-None.ensures.steps c.close-closed.ensures.goes);
-    }
+pub returns : goal.returns
+returns g c = record {
+  did = rebuild_done g.V.AnyVolume c.args.volume.now c.open.new.self c.steps-stepped.new.volume c.close-closed.new.self c.args.slot c.args.most _ None (number _) _
+      c.open.ensures.same c.steps-stepped.ensures.same c.close-closed.ensures.same c.in_ok-order.ensures.order refl
+      c.in_ok-order.ensures.goes c.in_ok-stepped.ensures.steps c.in_ok-closed.ensures.goes;
+}
