@@ -12,6 +12,7 @@ ghost use Rattle.prime.specs.Diagonals.{closed, unadjusted_block, unpaired_block
 use code::BLOCK;
 use code::xor::xor_run;
 
+// Two types, and not one with a parameter: each method of the one differs from the other's by more than a size or a constant.
 pub mod evenodd;
 pub mod rdp;
 

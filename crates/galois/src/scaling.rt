@@ -44,7 +44,7 @@ pub(crate) fn add_scaled(a: u8, block: &[u8; BLOCK], into: &mut [u8; BLOCK])
     ensures after { into.new ≡ into.old ⊕ map (times a) block.now }
 {
     let t = terms(a);
-    // By index: once `into.iter_mut().zip(block)` is over, a proof knows nothing of the bytes that it wrote (tried).
+    // By index, as in `code::xor::xor_run`, and for the same reason.
     for i in 0..BLOCK {
         into[i] ^= scaled(&t, block[i]);
     }

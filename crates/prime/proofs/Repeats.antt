@@ -1,6 +1,5 @@
 -- A row repeated over a block, and the ⊕ of the rows of a block.
-use Rattle.std.proofs.Common.{◌≡◌, ℕ, zero, suc, ◌+◌, ◌-◌, ◌*◌, ◌%◌, ◌<◌, ◌≤◌, min, List, ◌++◌, length, get_or, take, drop, replicate, sym, refl, ap, ◌∙◌, inl, inr, mod-eq_of_lt, zero-mul, suc-mul, add-one, arith, rules}
-use native.Mathlib.Nat.{mul-mod_left, mod_self}
+use Rattle.std.proofs.Common.{◌≡◌, ℕ, zero, suc, ◌+◌, ◌-◌, ◌*◌, ◌<◌, ◌≤◌, List, ◌++◌, length, get_or, take, drop, replicate, sym, refl, ap, ◌∙◌, inl, inr, zero-mul, suc-mul, add-one, arith, rules}
 use lib.Bits.{bit_xor, xor_zero_r, xor_assoc}
 use Rattle.std.specs.List.{between}
 use lib.Seq.{paste}
@@ -8,14 +7,13 @@ use Rattle.std.proofs.Math.Seq.{take-append_seam, drop-append_seam}
 use Rattle.std.proofs.lemmas.List.{get_or_past, places, drop-drop, drop-take, length-append, length-drop}
 use Rattle.std.proofs.lemmas.List.FromFn.{length-map-range_with_len, get_or-map-range_with_len}
 use Rattle.std.proofs.lemmas.List.Edits.{get_or-between, length-between, length-paste}
-use Rattle.std.proofs.lemmas.Nat.{mod-mul-add, mul-le}
+use Rattle.std.proofs.lemmas.Nat.{mul-le}
 use Rattle.std.proofs.lemmas.Slice.{between_is}
 use Rattle.std.proofs.lemmas.Bool.{cases_eq, cases_lt, cases_order}
 use Rattle.code.specs.Blocks.{◌⊕◌, onto}
 use Rattle.code.proofs.Blocks.{length_onto, get_or_onto, onto_same, is_onto}
 use Rattle.prime.specs.Rows.{cell, rows, repeated, everywhere, sum_at, row_sums}
 use Rattle.prime.specs.Diagonals.{closed, unadjusted, unadjusted_block}
-use Rattle.prime.proofs.Mods.{add_cong, add_cong_r}
 use Rattle.prime.proofs.Shifts.{closed_in, closed_end}
 use Rattle.prime.proofs.Grids.{length_rows, cell_rows, is_rows, rows_same}
 use Rattle.prime.proofs.Sizes.{Sizes}
