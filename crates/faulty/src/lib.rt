@@ -7,20 +7,20 @@
 // of ticks goes on.
 #![tactic(auto)]
 
-ghost use Rattle.std.specs.Prelude.{◌≡◌, ◌<◌, length, IfOk, if◌then◌else◌, nat_eq};
+ghost use Rattle.std.specs.Prelude.{◌≡◌, ◌<◌, length, if◌then◌else◌, nat_eq};
 ghost use Rattle.member.specs.Faults.{cause_number, numbers, refusal, raised};
-ghost use Rattle.member.specs.Meaning.{write_refusal, admission, Good};
+ghost use Rattle.member.specs.Meaning.{write_refusal};
 ghost use Rattle.faultplan.specs.declared.entry.Event.TheVariants.{Refused};
 ghost use Rattle.faultplan.specs.Entries.{kind_of};
 ghost use Rattle.faultplan.specs.Plans.{add_answer, room_answer, empty, with_entry, told};
-ghost use Rattle.faultplan.specs.Layers.{own_origin, withheld, only_gone, Planned, planned, layered, layer_meaning, layer_seen, passed, layer_wrote, layer_ticked, layer_renewed};
+ghost use Rattle.faultplan.specs.Layers.{own_origin, withheld, only_gone, Planned, planned, layer_meaning, layer_seen, passed, layer_wrote, layer_ticked, layer_renewed};
 ghost use Rattle.faultplan.proofs.Layers.{layer_lawful};
 ghost use Rattle.std.proofs.Common.{rules};
 
 use code::BLOCK;
 use faultplan::entry::{Check, Event, Kind};
 use faultplan::plan::{Plan, PlanRefusal};
-use member::{Cause, Fault, Member};
+use member::{Cause, Fault, Member, admit};
 
 #[derive(Drop)]
 pub struct FaultLayer<M> {
@@ -80,20 +80,6 @@ impl<M: Member> FaultLayer<M> {
             height: lower.saturating_add(1),
             block,
         }
-    }
-
-    // Refuses a buffer of so many bytes that is not a block's, and then a block that there is not.
-    fn admit(&self, block: usize, size: usize) -> Result<(), Fault>
-        ensures answered { refusal result ≡ admission (layered self.now.plan (M.Member.meaning (M.Member.state self.now.below))) block size }
-        ensures good { IfOk result (λ _. Good (M.Member.meaning (M.Member.state self.now.below)) block size) }
-    {
-        if size != BLOCK {
-            return Err(self.own(Cause::BadBuffer, block));
-        }
-        if block >= self.count() {
-            return Err(self.own(Cause::NoBlock, block));
-        }
-        Ok(())
     }
 
     // Refuses a call on a block that is not to go below, by the check that it asks for. The block stands beside the check, since a check
@@ -166,19 +152,19 @@ impl<M: Member> Member for FaultLayer<M> {
     }
 
     fn look(&self, block: usize) -> Result<(), Fault> {
-        self.admit(block, BLOCK)?;
+        admit(self.count(), self.height(), block, BLOCK)?;
         self.withhold(Check::Readable(block), block)?;
         self.below.look(block)
     }
 
     fn read(&mut self, block: usize, buffer: &mut [u8]) -> Result<(), Fault> {
-        self.admit(block, buffer.len())?;
+        admit(self.count(), self.height(), block, buffer.len())?;
         self.withhold(Check::Readable(block), block)?;
         self.below.read(block, buffer)
     }
 
     fn write(&mut self, block: usize, bytes: &[u8]) -> Result<(), Fault> {
-        self.admit(block, bytes.len())?;
+        admit(self.count(), self.height(), block, bytes.len())?;
         match self.withhold(Check::Writable(block), block) {
             Ok(()) => self.pass(block, bytes),
             Err(fault) => {
