@@ -103,11 +103,9 @@ impl<M: Member> FaultLayer<M> {
         ensures answered { refusal result ≡ write_refusal (M.Member.meaning (M.Member.state self.old.below)) block (length bytes.now) }
         ensures exact { planned (M.Member.state self.new.below) self.new.plan ≡ passed M.Member.meaning M.Member.wrote (planned (M.Member.state self.old.below) self.old.plan) block bytes.now }
     {
-        let answer = self.below.write(block, bytes);
-        if answer.is_ok() {
-            self.plan.tell(Event::Accepted(block));
-        }
-        answer
+        self.below.write(block, bytes)?;
+        self.plan.tell(Event::Accepted(block));
+        Ok(())
     }
 
     // Notes a write that the layer refused. One refused with 3 spoils the block.
