@@ -7,20 +7,20 @@
 // of ticks goes on.
 #![tactic(auto)]
 
-ghost use Rattle.std.specs.Prelude.{◌≡◌, ◌<◌, length, IfOk, if◌then◌else◌, nat_eq};
+ghost use Rattle.std.specs.Prelude.{◌≡◌, ◌<◌, length, if◌then◌else◌, nat_eq};
 ghost use Rattle.member.specs.Faults.{cause_number, numbers, refusal, raised};
-ghost use Rattle.member.specs.Meaning.{write_refusal, admission, Good};
+ghost use Rattle.member.specs.Meaning.{write_refusal};
 ghost use Rattle.faultplan.specs.declared.entry.Event.TheVariants.{Refused};
 ghost use Rattle.faultplan.specs.Entries.{kind_of};
 ghost use Rattle.faultplan.specs.Plans.{add_answer, room_answer, empty, with_entry, told};
-ghost use Rattle.faultplan.specs.Layers.{own_origin, withheld, only_gone, Planned, planned, layered, layer_meaning, layer_seen, passed, layer_wrote, layer_ticked, layer_renewed};
+ghost use Rattle.faultplan.specs.Layers.{own_origin, withheld, only_gone, Planned, planned, layer_meaning, layer_seen, passed, layer_wrote, layer_ticked, layer_renewed};
 ghost use Rattle.faultplan.proofs.Layers.{layer_lawful};
 ghost use Rattle.std.proofs.Common.{rules};
 
 use code::BLOCK;
 use faultplan::entry::{Check, Event, Kind};
 use faultplan::plan::{Plan, PlanRefusal};
-use member::{Cause, Fault, Member};
+use member::{Cause, Fault, Member, admit};
 
 #[derive(Drop)]
 pub struct FaultLayer<M> {
@@ -82,20 +82,6 @@ impl<M: Member> FaultLayer<M> {
         }
     }
 
-    // Refuses a buffer of so many bytes that is not a block's, and then a block that there is not.
-    fn admit(&self, block: usize, size: usize) -> Result<(), Fault>
-        ensures answered { refusal result ≡ admission (layered self.now.plan (M.Member.meaning (M.Member.state self.now.below))) block size }
-        ensures good { IfOk result (λ _. Good (M.Member.meaning (M.Member.state self.now.below)) block size) }
-    {
-        if size != BLOCK {
-            return Err(self.own(Cause::BadBuffer, block));
-        }
-        if block >= self.count() {
-            return Err(self.own(Cause::NoBlock, block));
-        }
-        Ok(())
-    }
-
     // Refuses a call on a block that is not to go below, by the check that it asks for. The block stands beside the check, since a check
     // that the member is present names none.
     fn withhold(&self, check: Check, at: usize) -> Result<(), Fault>
@@ -117,11 +103,9 @@ impl<M: Member> FaultLayer<M> {
         ensures answered { refusal result ≡ write_refusal (M.Member.meaning (M.Member.state self.old.below)) block (length bytes.now) }
         ensures exact { planned (M.Member.state self.new.below) self.new.plan ≡ passed M.Member.meaning M.Member.wrote (planned (M.Member.state self.old.below) self.old.plan) block bytes.now }
     {
-        let answer = self.below.write(block, bytes);
-        if answer.is_ok() {
-            self.plan.tell(Event::Accepted(block));
-        }
-        answer
+        self.below.write(block, bytes)?;
+        self.plan.tell(Event::Accepted(block));
+        Ok(())
     }
 
     // Notes a write that the layer refused. One refused with 3 spoils the block.
@@ -166,19 +150,19 @@ impl<M: Member> Member for FaultLayer<M> {
     }
 
     fn look(&self, block: usize) -> Result<(), Fault> {
-        self.admit(block, BLOCK)?;
+        admit(self.count(), self.height(), block, BLOCK)?;
         self.withhold(Check::Readable(block), block)?;
         self.below.look(block)
     }
 
     fn read(&mut self, block: usize, buffer: &mut [u8]) -> Result<(), Fault> {
-        self.admit(block, buffer.len())?;
+        admit(self.count(), self.height(), block, buffer.len())?;
         self.withhold(Check::Readable(block), block)?;
         self.below.read(block, buffer)
     }
 
     fn write(&mut self, block: usize, bytes: &[u8]) -> Result<(), Fault> {
-        self.admit(block, bytes.len())?;
+        admit(self.count(), self.height(), block, bytes.len())?;
         match self.withhold(Check::Writable(block), block) {
             Ok(()) => self.pass(block, bytes),
             Err(fault) => {

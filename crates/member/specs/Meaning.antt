@@ -43,13 +43,17 @@ on_block m b refused = cond (nat_lt b m.count) refused (Some (own m NoBlock b))
 abbrev pub on_buffer : Meaning → ℕ → ℕ → Option Refusal → Option Refusal
 on_buffer m b n refused = cond (n == block_size) refused (Some (own m BadBuffer b))
 
--- the refusal of a call on block b with a buffer of n bytes that a member gives before all others, or none
-abbrev pub admission : Meaning → ℕ → ℕ → Option Refusal
-admission m b n = on_buffer m b n (on_block m b None)
+-- The refusal of a call on block b with a buffer of n bytes that a member of this height with so many blocks gives before all others,
+-- or none.
+abbrev pub admission : ℕ → ℕ → ℕ → ℕ → Option Refusal
+admission count height b n =
+    cond (n == block_size)
+    (cond (nat_lt b count) None (Some (raised NoBlock (record { height = height; block = b }))))
+    (Some (raised BadBuffer (record { height = height; block = b })))
 
--- a good buffer and number, which are not refused so
-pub record Good (m : Meaning) (b n : ℕ) : Type 0 where
-  pub there : b < m.count
+-- a number of a block that there is, and a buffer of a block's bytes, which are not refused so
+pub record Good (count b n : ℕ) : Type 0 where
+  pub there : b < count
   pub sized : n ≡ block_size
 
 -- 1 where the member is gone, then 2 where the block is unreadable

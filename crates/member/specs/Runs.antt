@@ -1,8 +1,8 @@
 -- Blocks that lie one after the other in a run of bytes: what the kinds at the bottom are made of.
-use Rattle.std.specs.Prelude.{◌≡◌, ℕ, ◌+◌, ◌*◌, ◌/◌, ◌<◌, min, true, false, cond, List, ◌++◌, length, take, drop, replicate, Some, None, nat_lt}
+use Rattle.std.specs.Prelude.{◌≡◌, ℕ, ◌+◌, ◌*◌, ◌/◌, min, true, false, cond, List, ◌++◌, length, take, drop, replicate, Some, None, nat_lt}
 use Rattle.code.specs.Blocks.{Bytes, block_size}
 use Rattle.member.specs.Faults.{Origin}
-use Rattle.member.specs.Meaning.{Meaning, most_blocks, checked}
+use Rattle.member.specs.Meaning.{Meaning, Good, most_blocks, checked}
 
 -- how many whole blocks a run has, counting at most so many
 abbrev pub whole_blocks : ℕ → List ℕ → ℕ
@@ -38,8 +38,7 @@ run_wrote n xs b v = checked (run_meaning n xs) b (length v) (pasted xs b v) xs
 
 -- Of n blocks, block b is there and lies from a to e, and the buffer of a call on it has as many bytes as a block.
 pub record Lies (n b m a e : ℕ) : Type 0 where
-  pub there : b < n
-  pub sized : m ≡ block_size
+  pub good : Good n b m
   pub from : a ≡ b * block_size
   pub to : e ≡ a + block_size
 

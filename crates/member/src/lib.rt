@@ -2,11 +2,12 @@
 // the kinds at the bottom of every stack of layers.
 #![tactic(auto)]
 
-ghost use Rattle.std.specs.Prelude.{◌≡◌, ℕ, List, length, Some, decimal};
+ghost use Rattle.std.specs.Prelude.{◌≡◌, ℕ, List, length, IfOk, Some, decimal};
 ghost use Rattle.member.specs.Faults.{cause_number, numbers, fault_text, refusal, refused_with, ToldApart};
-ghost use Rattle.member.specs.Meaning.{Meaning, look_refusal, read_refusal, write_refusal, handed};
+ghost use Rattle.member.specs.Meaning.{Meaning, admission, Good, look_refusal, read_refusal, write_refusal, handed};
 ghost use Rattle.member.specs.Changes.{Written, Ticked, Renewed, Lawful};
 
+use code::BLOCK;
 use std::error::Error;
 use std::fmt;
 
@@ -92,6 +93,26 @@ pub fn refused_with(answer: &Result<(), Fault>, cause: Cause) -> bool
         Ok(()) => false,
         Err(fault) => fault.cause == cause,
     }
+}
+
+// Refuses, for a member of this height with so many blocks, a buffer of so many bytes that is not a block's, and then a block that
+// there is not.
+pub fn admit(count: usize, height: u8, block: usize, size: usize) -> Result<(), Fault>
+    ensures answered { refusal result ≡ admission count height block size }
+    ensures good { IfOk result (λ _. Good count block size) }
+{
+    let fault = |cause| Fault {
+        cause,
+        height,
+        block,
+    };
+    if size != BLOCK {
+        return Err(fault(Cause::BadBuffer));
+    }
+    if block >= count {
+        return Err(fault(Cause::NoBlock));
+    }
+    Ok(())
 }
 
 // Promises in numbers leave nothing of a fault open.

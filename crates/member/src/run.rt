@@ -5,7 +5,7 @@ ghost use Rattle.member.specs.Faults.{numbers, refusal, raised as raised_from};
 ghost use Rattle.member.specs.Meaning.{look_refusal, read_refusal, write_refusal, handed};
 ghost use Rattle.member.specs.Runs.{bottom_origin, whole_blocks, run_meaning, run_wrote, Lies};
 
-use crate::{Cause, Fault};
+use crate::{Cause, Fault, admit};
 use code::BLOCK;
 use std::ops::Range;
 
@@ -42,10 +42,7 @@ fn place_in(run: &[u8], most: usize, block: usize, size: usize) -> Result<Range<
     ensures answered { refusal result ≡ read_refusal (run_meaning (whole_blocks most run.now) run.now) block size }
     ensures found { IfOk result (λ r. Lies (whole_blocks most run.now) block size r.start r.end) }
 {
-    if size != BLOCK {
-        return Err(raised(Cause::BadBuffer, block));
-    }
-    look_in(run, most, block)?;
+    admit(count_in(run, most), 0, block, size)?;
     let from = block * BLOCK;
     Ok(from..from + BLOCK)
 }

@@ -8,7 +8,7 @@ use Rattle.remap.specs.Places.{Table, place, used}
 use Rattle.remap.specs.Remapped.{remapped, own_count}
 use Rattle.remap.specs.Tries.{block_in, inside}
 
-module _ (t : Table) (m : Meaning) (within : used t ≤ t.spares) (b n : ℕ) (good : Good (remapped t m) b n) (at : ℕ)
+module _ (t : Table) (m : Meaning) (within : used t ≤ t.spares) (b n : ℕ) (good : Good (own_count t m) b n) (at : ℕ)
     (ea : at ≡ place t (own_count t m) b) where
   under : at < m.count
   under = let h = inside t (own_count t m) m within (omega arith) b good.there in omega (arith, ea)

@@ -1,9 +1,9 @@
 // The remap layer: a member over any other, whose last blocks are spares. A block that refuses a write is moved to a spare.
 #![tactic(auto)]
 
-ghost use Rattle.std.specs.Prelude.{◌≡◌, ◌≤◌, length, IfOk};
+ghost use Rattle.std.specs.Prelude.{◌≡◌, ◌≤◌, length};
 ghost use Rattle.member.specs.Faults.{numbers, refusal};
-ghost use Rattle.member.specs.Meaning.{most_blocks, own, admission, Good, put_refusal};
+ghost use Rattle.member.specs.Meaning.{most_blocks, own, Good, put_refusal};
 ghost use Rattle.remap.specs.Places.{table_of, unmoved, kept_back, place, left};
 ghost use Rattle.remap.specs.Remapped.{remapped, own_count, Layer, layer, LayerSound, layer_meaning, layer_seen, layer_wrote, layer_ticked, layer_renewed, tries};
 ghost use Rattle.remap.specs.Rules.{PlacesApart, MovesToLowest};
@@ -12,7 +12,7 @@ ghost use Rattle.remap.specs.Laws.{layer_lawful};
 
 use crate::moves::Moves;
 use code::BLOCK;
-use member::{Cause, Fault, Member, refused_with};
+use member::{Cause, Fault, Member, admit, refused_with};
 
 mod moves;
 
@@ -79,23 +79,9 @@ impl<M: Member> Remap<M> {
         }
     }
 
-    // Refuses a buffer of so many bytes that is not a block's, and then a block that there is not.
-    fn admit(&self, block: usize, size: usize) -> Result<(), Fault>
-        ensures answered { refusal result ≡ admission (remapped (table_of self.now.moves) (M.Member.meaning (M.Member.state self.now.below))) block size }
-        ensures good { IfOk result (λ _. Good (remapped (table_of self.now.moves) (M.Member.meaning (M.Member.state self.now.below))) block size) }
-    {
-        if size != BLOCK {
-            return Err(self.own(Cause::BadBuffer, block));
-        }
-        if block >= self.first() {
-            return Err(self.own(Cause::NoBlock, block));
-        }
-        Ok(())
-    }
-
     // Writes a block where it stands, or at the next spare that takes it.
     fn put(&mut self, block: usize, bytes: &[u8]) -> Result<(), Fault>
-        requires good { Good (remapped (table_of self.old.moves) (M.Member.meaning (M.Member.state self.old.below))) block (length bytes.now) }
+        requires good { Good (own_count (table_of self.old.moves) (M.Member.meaning (M.Member.state self.old.below))) block (length bytes.now) }
         ensures answered { refusal result ≡ put_refusal (remapped (table_of self.old.moves) (M.Member.meaning (M.Member.state self.old.below))) block }
         ensures exact { layer (M.Member.state self.new.below) (table_of self.new.moves) ≡ tries M.Member.meaning M.Member.wrote (own_count (table_of self.old.moves) (M.Member.meaning (M.Member.state self.old.below))) block bytes.now (left (table_of self.old.moves)) (M.Member.state self.old.below) (table_of self.old.moves) }
     {
@@ -145,19 +131,19 @@ impl<M: Member> Member for Remap<M> {
     }
 
     fn look(&self, block: usize) -> Result<(), Fault> {
-        self.admit(block, BLOCK)?;
+        admit(self.count(), self.height(), block, BLOCK)?;
         let at = self.place(block);
         self.below.look(at)
     }
 
     fn read(&mut self, block: usize, buffer: &mut [u8]) -> Result<(), Fault> {
-        self.admit(block, buffer.len())?;
+        admit(self.count(), self.height(), block, buffer.len())?;
         let at = self.place(block);
         self.below.read(at, buffer)
     }
 
     fn write(&mut self, block: usize, bytes: &[u8]) -> Result<(), Fault> {
-        self.admit(block, bytes.len())?;
+        admit(self.count(), self.height(), block, bytes.len())?;
         self.put(block, bytes)
     }
 

@@ -1,4 +1,4 @@
-use Rattle.std.proofs.Common.{◌≡◌, ◌<◌, length, Some, None, sym, ap, ◌∙◌, subst}
+use Rattle.std.proofs.Common.{◌≡◌, ◌<◌, length, Some, None, sym, ap, ◌∙◌, subst, arith}
 use Rattle.member.specs.Faults.{numbers}
 use Rattle.member.specs.Changes.{Written}
 use Rattle.faultplan.specs.Layers.{planned, layer_meaning}
@@ -13,7 +13,7 @@ returns-in-Ok g c =
     let b = c.args.block in
     let v = c.args.bytes.now in
     let whole : length v ≡ 512 = c.in_ok-admit.ensures.good.sized in
-    let there : b < (M.meaning x.below).count = c.in_ok-admit.ensures.good.there in
+    let there : b < (M.meaning x.below).count = omega (arith, c.count.ensures.value, c.in_ok-admit.ensures.good.there) in
     let pass = sym c.in-Ok.ensures.answered in
     let exact = c.pass.ensures.exact ∙ sym (wrote_settled M.meaning M.wrote x b v whole there None pass) in
     record {
@@ -33,7 +33,7 @@ returns-in-Err g c =
     let v = c.args.bytes.now in
     let f = Some (numbers c.in-Err.fault) in
     let whole : length v ≡ 512 = c.in_ok-admit.ensures.good.sized in
-    let there : b < (M.meaning x.below).count = c.in_ok-admit.ensures.good.there in
+    let there : b < (M.meaning x.below).count = omega (arith, c.count.ensures.value, c.in_ok-admit.ensures.good.there) in
     let shut = sym c.in-Err.ensures.answered in
     let exact =
     same_planned (ap M.state c.stop.ensures.below) c.stop.ensures.plan

@@ -1,4 +1,5 @@
-use Rattle.std.proofs.Common.{◌∙◌}
+use Rattle.std.proofs.Common.{◌∙◌, subst}
+use Rattle.member.specs.Meaning.{Good}
 use Rattle.remap.specs.Places.{table_of}
 use Rattle.remap.specs.Tables.{table_within}
 use Rattle.remap.proofs.Calls.{look_through}
@@ -11,5 +12,5 @@ returns g c =
       answered =
           c.look.ensures.answered
           ∙ look_through (table_of s.moves) (g.M.Member.meaning (g.M.Member.state s.below)) (table_within s.moves) c.args.block _
-          c.in_ok-admit.ensures.good _ c.place-at.ensures.value;
+          (subst (λ k. Good k c.args.block 512) c.count.ensures.value c.in_ok-admit.ensures.good) _ c.place-at.ensures.value;
     }
