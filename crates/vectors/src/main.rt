@@ -15,38 +15,33 @@ fn task(heap: Global, code: u8, k: u8, seed: u32, bytes: usize) -> Result<Vec<u8
     Ok(task)
 }
 
-// Appends the report on a task of that head and length.
-fn push_report(
-    heap: Global,
-    out: &mut String,
-    code: u8,
-    k: u8,
-    seed: u32,
-    bytes: usize,
-) -> Result<(), AllocError> {
-    let task = task(heap, code, k, seed, bytes)?;
-    let text = report(heap, task.as_slice())?;
-    out.push_str(text.as_str())
+// Appends the report on a task.
+fn push_report(heap: Global, out: &mut String, task: &[u8]) -> Result<(), AllocError> {
+    out.push_str(report(heap, task)?.as_str())
 }
 
 // Appends the reports on stripes of one, two, five and sixteen data columns by a code.
 fn push_stripes(heap: Global, out: &mut String, code: u8) -> Result<(), AllocError> {
     for k in [1u8, 2, 5, 16] {
         let seed = 1000 * u32::from(code) + u32::from(k);
-        push_report(heap, out, code, k, seed, 512 * usize::from(k))?;
+        push_report(heap, out, &task(heap, code, k, seed, 512 * usize::from(k))?)?;
     }
     Ok(())
 }
 
 // Appends the reports on tasks that are no stripes: too many columns, no such code, a byte short, a byte long, no columns.
 fn push_refusals(heap: Global, out: &mut String) -> Result<(), AllocError> {
-    push_report(heap, out, 0, 17, 1, 512 * 17)?;
-    push_report(heap, out, 3, 2, 1, 1024)?;
-    push_report(heap, out, 1, 2, 1, 1023)?;
-    push_report(heap, out, 1, 2, 1, 1025)?;
-    push_report(heap, out, 2, 0, 1, 0)?;
-    out.push_str(report(heap, &[1, 0, 1])?.as_str())?;
-    out.push_str(report(heap, &[])?.as_str())
+    for (code, k, bytes) in [
+        (0, 17, 512 * 17),
+        (3, 2, 1024),
+        (1, 2, 1023),
+        (1, 2, 1025),
+        (2, 0, 0),
+    ] {
+        push_report(heap, out, &task(heap, code, k, 1, bytes)?)?;
+    }
+    push_report(heap, out, &[1, 0, 1])?;
+    push_report(heap, out, &[])
 }
 
 fn main(rt: HostRuntime) -> anyhow::Result<()> {
