@@ -9,11 +9,11 @@ use Rattle.layout.specs.Placing.{Placing}
 use Rattle.layout.specs.declared.Layout.{Ghosts as Layout}
 use Rattle.contents.specs.declared.Refusal.{Refusal}
 use Rattle.contents.specs.Columns.{Members, Frontiers}
-use Rattle.contents.specs.Refusals.{Told, plain, with_loss, outcome}
-use Rattle.contents.specs.Shapes.{Shape, Valid, blocks, stripe_of, column_of, lossy, loss_at, recovered_at}
-use Rattle.contents.specs.Answers.{read_outcome, read_leaves, read_lost, write_takes, after_write, write_outcome, scrub_takes, scrub_outcome}
-use Rattle.contents.specs.Changes.{Spread, WriteChanges, Scrubbed, ScrubChanges}
-use Rattle.volume.specs.Tallies.{counted}
+use Rattle.contents.specs.Refusals.{Told, plain, outcome}
+use Rattle.contents.specs.Shapes.{Shape, Valid, blocks, stripe_of, column_of, lossy, recovered_at}
+use Rattle.contents.specs.Answers.{read_outcome, read_leaves, write_takes, write_outcome, scrub_takes, scrub_outcome}
+use Rattle.contents.specs.Changes.{WriteChanges, ScrubChanges}
+use Rattle.volume.specs.Columns.{ColumnRead, ColumnWritten, StripeScrubbed}
 use Rattle.volume.specs.declared.size.Size.{Size}
 use Rattle.volume.specs.declared.grid.Grid.{Grid}
 use Rattle.volume.specs.Sizes.{Fitting, shape_at}
@@ -70,12 +70,10 @@ module _ (V : Shape) (M : Members) (F : Frontiers) (a : ℕ) (old : List ℕ) wh
   pub read_beyond : length old ≡ block_size → blocks V ≤ a → ReadDone V M F a old old (Err (plain 2))
   read_beyond h l = refused_read (plain 2) (sym (cond-true _ _ _ (eq-eqb (length old) block_size h) ∙ cond-false _ _ _ (le-ltb a (blocks V) l)))
 
-  pub read_within : length old ≡ block_size → a < blocks V → (r : Result Unit Refusal) (new : List ℕ)
-      → outcome r ≡ cond (read_lost V M F a) (Err (with_loss 4 (loss_at V M F (stripe_of V a)))) (Ok tt)
-      → new ≡ cond (is_ok r) (recovered_at V M F (stripe_of V a) (column_of V a)) old → ReadDone V M F a old new (outcome r)
-  read_within h l r new e q =
-      let w : outcome r ≡ read_outcome V M F a (length old) = e ∙ sym (cond-true _ _ _ (eq-eqb (length old) block_size h) ∙ cond-true _ _ _ (lt-ltb a (blocks V) l)) in
-      record { answered = w; after = q ∙ ap (λ (b : Bool). cond b (recovered_at V M F (stripe_of V a) (column_of V a)) old) (sym (ok_same r) ∙ ap is_ok w) }
+  pub read_within : length old ≡ block_size → a < blocks V → (r : Result Unit Refusal) (new : List ℕ) → ColumnRead V M F (stripe_of V a) (column_of V a) old new r → ReadDone V M F a old new (outcome r)
+  read_within h l r new d =
+      let w : outcome r ≡ read_outcome V M F a (length old) = d.answered ∙ sym (cond-true _ _ _ (eq-eqb (length old) block_size h) ∙ cond-true _ _ _ (lt-ltb a (blocks V) l)) in
+      record { answered = w; after = d.after ∙ ap (λ (b : Bool). cond b (recovered_at V M F (stripe_of V a) (column_of V a)) old) (sym (ok_same r) ∙ ap is_ok w) }
 
 -- a product above a number has no factor 0
 pub factor : (a s k : ℕ) → a < s * k → 0 < k
@@ -103,17 +101,14 @@ module _ (V : Shape) (M : Members) (F : Frontiers) (a : ℕ) (v : List ℕ) wher
         changes = record { taken = λ t. absurd (false≢true (sym (and_right (eqb (length v) block_size) _ (and_left _ _ e)) ∙ t)); refused = λ _. refl };
       }
 
-  pub write_within : length v ≡ block_size → a < blocks V → (N : Members) (r : Result ℕ Refusal)
-      → outcome r ≡ cond (lossy V M F (stripe_of V a)) (Err (with_loss 4 (loss_at V M F (stripe_of V a)))) (after_write V N F (stripe_of V a))
-      → (lossy V M F (stripe_of V a) ≡ false → Spread V M F (stripe_of V a) (column_of V a) v N) → (lossy V M F (stripe_of V a) ≡ true → N ≡ M)
-      → WriteDone V M F a v N (outcome r)
-  write_within h l N r e t f =
+  pub write_within : length v ≡ block_size → a < blocks V → (N : Members) (r : Result ℕ Refusal) → ColumnWritten V M F (stripe_of V a) (column_of V a) v N r → WriteDone V M F a v N (outcome r)
+  write_within h l N r d =
       let x = eq-eqb (length v) block_size h in
       let y = lt-ltb a (blocks V) l in
       let w : write_takes V M F a (length v) ≡ not (lossy V M F (stripe_of V a)) = both (eqb (length v) block_size) (ltb a (blocks V)) (not (lossy V M F (stripe_of V a))) x y in
       record {
-        answered = e ∙ sym (cond-true _ _ _ x ∙ cond-true _ _ _ y);
-        changes = record { taken = λ q. t (not-true _ (sym w ∙ q)); refused = λ q. f (not-false _ (sym w ∙ q)) };
+        answered = d.answered ∙ sym (cond-true _ _ _ x ∙ cond-true _ _ _ y);
+        changes = record { taken = λ q. d.taken (not-true _ (sym w ∙ q)); refused = λ q. d.refused (not-false _ (sym w ∙ q)) };
       }
     where
       both : (a b d : Bool) → a ≡ true → b ≡ true → (a && (b && d)) ≡ d
@@ -134,13 +129,11 @@ module _ (V : Shape) (M : Members) (F : Frontiers) (s : ℕ) where
       let e = le-ltb s V.stripes l in
       record { answered = sym (cond-false _ _ _ e); changes = record { taken = λ t. absurd (false≢true (sym (and_left _ _ e) ∙ t)); refused = λ _. refl } }
 
-  pub scrub_within : s < V.stripes → (N : Members) (r : Result (ℕ × ℕ × ℕ) Refusal)
-      → outcome r ≡ cond (lossy V M F s) (Err (with_loss 4 (loss_at V M F s))) (Ok (counted V M F s))
-      → (lossy V M F s ≡ false → Scrubbed V M F s N) → (lossy V M F s ≡ true → N ≡ M) → ScrubDone V M F s N (outcome r)
-  scrub_within l N r e t f =
+  pub scrub_within : s < V.stripes → (N : Members) (r : Result (ℕ × ℕ × ℕ) Refusal) → StripeScrubbed V M F s N r → ScrubDone V M F s N (outcome r)
+  scrub_within l N r d =
       let y = lt-ltb s V.stripes l in
       let w : scrub_takes V M F s ≡ not (lossy V M F s) = ap (λ (b : Bool). b && not (lossy V M F s)) y in
       record {
-        answered = e ∙ sym (cond-true _ _ _ y);
-        changes = record { taken = λ q. t (not-true _ (sym w ∙ q)); refused = λ q. f (not-false _ (sym w ∙ q)) };
+        answered = d.answered ∙ sym (cond-true _ _ _ y);
+        changes = record { taken = λ q. d.taken (not-true _ (sym w ∙ q)); refused = λ q. d.refused (not-false _ (sym w ∙ q)) };
       }

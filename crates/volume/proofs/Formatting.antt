@@ -1,6 +1,6 @@
 -- The size and the shape that the parts of a volume make.
-use Rattle.std.proofs.Common.{◌≡◌, ℕ, ◌-◌, ◌≤◌, Bool, true, false, cond, leb, sym, refl, ap, ◌∙◌, ⊎_elim, arith}
-use Rattle.std.proofs.lemmas.Bool.{cases_Bool, and_parts, cond-true, cond-false, leb-true, ltb-true}
+use Rattle.std.proofs.Common.{◌≡◌, ℕ, ◌-◌, ◌≤◌, Bool, true, false, cond, leb, refl}
+use Rattle.std.proofs.lemmas.Bool.{and_parts, leb-true, ltb-true}
 use Rattle.code.specs.Codes.{Coding}
 use Rattle.member.specs.Meaning.{most_blocks}
 use Rattle.contents.specs.Columns.{Members}
@@ -29,17 +29,3 @@ fitting_of w n S e few =
     let wide = leb-true 4 n a.0 in
     let long = ltb-true 0 S d.1 in
     record { reach = leb-true (n - 2) w d.0; most = leb-true n 18 b.0; few = few; wide = λ _. wide; long = λ _. long }
-
--- parts that fit have slots
-pub fit_slots : (w n : ℕ) (S : ℕ) → cond (fit n w S) n 0 ≡ 0 → fit n w S ≡ false
-fit_slots w n S e =
-    ⊎_elim
-    (λ (t : fit n w S ≡ true).
-    let l : 4 ≤ n = leb-true 4 n (and_parts (leb 4 n) _ t).0 in
-    let z : n ≡ 0 = sym (cond-true _ _ _ t) ∙ e in
-    absurd (omega arith))
-    (λ (f : fit n w S ≡ false). f)
-    (cases_Bool (fit n w S))
-
-pub slots_fit : (w n : ℕ) (S : ℕ) → (cond (fit n w S) n 0 ≡ 0 → ⊥) → fit n w S ≡ true
-slots_fit w n S h = ⊎_elim (λ (t : fit n w S ≡ true). t) (λ (f : fit n w S ≡ false). absurd (h (cond-false _ _ _ f))) (cases_Bool (fit n w S))

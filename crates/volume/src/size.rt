@@ -1,6 +1,6 @@
 // How many slots and stripes a volume has.
-ghost use Rattle.std.specs.Prelude.{◌≡◌};
-ghost use Rattle.contents.specs.Shapes.{fit};
+ghost use Rattle.std.specs.Prelude.{◌≡◌, is_some, unwrap_or, IfSome};
+ghost use Rattle.contents.specs.Shapes.{fit, smallest};
 ghost use Rattle.bank.specs.Slots.{told};
 ghost use Rattle.volume.specs.Forming.{parts_size};
 ghost use Rattle.volume.specs.Sizes.{Fitting};
@@ -14,7 +14,7 @@ use code::Code;
 pub const MOST_SLOTS: usize = 18;
 
 // The slots and stripes of a volume.
-#[derive(Clone, Copy)]
+#[derive(Clone, Copy, Default)]
 pub struct Size {
     pub slots: usize,
     pub stripes: usize,
@@ -27,25 +27,19 @@ pub fn fits(limit: usize, slots: usize, stripes: usize) -> bool
     4 <= slots && slots <= MOST_SLOTS && slots - 2 <= limit && 0 < stripes
 }
 
-// The size that a code and a bank make: nothing where they do not fit.
-pub fn parts_size<C: Code, B: Bank>(code: &C, bank: &B) -> Size
-    ensures value { result ≡ parts_size (C.Code.coding code.now).limit (told (slots_in B.Bank bank.now).size) (members_in B.Bank bank.now) }
-    ensures fitting { Fitting (C.Code.coding code.now).limit result }
+// The size that a code and a bank make; none where they do not fit.
+pub fn parts_size<C: Code, B: Bank>(code: &C, bank: &B) -> Option<Size>
+    ensures fits { is_some result ≡ fit (told (slots_in B.Bank bank.now).size) (C.Code.coding code.now).limit (smallest (members_in B.Bank bank.now) (told (slots_in B.Bank bank.now).size)) }
+    ensures value { unwrap_or result (record { slots = 0; stripes = 0 }) ≡ parts_size (C.Code.coding code.now).limit (told (slots_in B.Bank bank.now).size) (members_in B.Bank bank.now) }
+    ensures fitting { IfSome result (Fitting (C.Code.coding code.now).limit) }
 {
     let slots = bank.len();
     if slots > MOST_SLOTS {
-        return Size {
-            slots: 0,
-            stripes: 0,
-        };
+        return None;
     }
     let stripes = smallest_count(bank, slots);
-    if fits(code.limit(), slots, stripes) {
-        Size { slots, stripes }
-    } else {
-        Size {
-            slots: 0,
-            stripes: 0,
-        }
+    if !fits(code.limit(), slots, stripes) {
+        return None;
     }
+    Some(Size { slots, stripes })
 }

@@ -16,28 +16,6 @@ use recovery::sums::add_column;
 use recovery::ways::solve;
 
 impl<C: Code, L: Layout> Grid<C, L> {
-    // Adds column `t` of stripe `s` to each of the two sums that the way needs, if it is current.
-    fn add_current<B: Bank>(
-        &self,
-        bank: &mut B,
-        s: usize,
-        t: usize,
-        way: Way,
-        scratch: &mut [u8],
-        plain: &mut [u8],
-        mixed: &mut [u8],
-    )
-        requires column { t < width self.now + 2 }
-        requires sizes { (length scratch.old ≡ block_size) × (length plain.old ≡ block_size) × (length mixed.old ≡ block_size) }
-        ensures same { slots_in B.Bank bank.new ≡ slots_in B.Bank bank.old }
-        ensures plain { plain.new ≡ (if takes_plain way then (plain.old ⊕ if_present (plain_part (width self.now) t) (columns_on L.Layout self.now (slots_in B.Bank bank.old) s t)) else plain.old) }
-        ensures mixed { mixed.new ≡ (if takes_mixed way then (mixed.old ⊕ if_present (mixed_part (C.Code.coding self.now.code) (width self.now) t) (columns_on L.Layout self.now (slots_in B.Bank bank.old) s t)) else mixed.old) }
-    {
-        if self.load(bank, s, t, scratch) {
-            let _ = add_column(&self.code, way, self.width(), t, scratch, plain, mixed);
-        }
-    }
-
     // The two sums over the current columns of stripe `s`, as far as the way needs them, in two buffers of zeros.
     fn gather<B: Bank>(&self, bank: &mut B, s: usize, way: Way, plain: &mut [u8], mixed: &mut [u8])
         requires empty { (plain.old ≡ zeros) × (mixed.old ≡ zeros) }
@@ -46,8 +24,11 @@ impl<C: Code, L: Layout> Grid<C, L> {
         ensures mixed { mixed.new ≡ (if takes_mixed way then mixed_sum (C.Code.coding self.now.code) (width self.now) (columns_on L.Layout self.now (slots_in B.Bank bank.old) s) (width self.now + 2) else zeros) }
     {
         let mut scratch = [0u8; BLOCK];
-        for t in 0..self.width() + 2 {
-            self.add_current(bank, s, t, way, &mut scratch, plain, mixed);
+        let k = self.width();
+        for t in 0..k + 2 {
+            if self.load(bank, s, t, &mut scratch) {
+                let _ = add_column(&self.code, way, k, t, &scratch, plain, mixed);
+            }
         }
     }
 

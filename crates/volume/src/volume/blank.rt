@@ -44,10 +44,9 @@ impl<C: Code, L: Layout, B: Bank> Blank<C, L, B> {
     pub fn fit(&self) -> Fitness
         ensures value { fitness_number result ≡ fit_number (told (slots_in B.Bank self.now.bank).size) (C.Code.coding self.now.code).limit (members_in B.Bank self.now.bank) }
     {
-        if parts_size(&self.code, &self.bank).slots == 0 {
-            Fitness::Unfit
-        } else {
-            Fitness::Fit
+        match parts_size(&self.code, &self.bank) {
+            Some(_) => Fitness::Fit,
+            None => Fitness::Unfit,
         }
     }
 
@@ -69,7 +68,7 @@ impl<C: Code, L: Layout, B: Bank> Blank<C, L, B> {
             layout,
             mut bank,
         } = self;
-        let size = parts_size(&code, &bank);
+        let size = parts_size(&code, &bank).unwrap_or_default();
         zero_stripes(&mut bank, size.slots, size.stripes);
         Volume {
             grid: Grid {

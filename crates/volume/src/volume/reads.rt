@@ -1,10 +1,11 @@
 // Reads of a volume: one member where the block's column is current, else what the others recover.
-ghost use Rattle.std.specs.Prelude.{◌≡◌, not, ◌&&◌, length, is_some, is_ok, if◌then◌else◌, Ok, Err, nat_lt};
+ghost use Rattle.std.specs.Prelude.{◌≡◌, length};
 ghost use Rattle.code.specs.Blocks.{block_size};
-ghost use Rattle.contents.specs.Refusals.{outcome, with_loss};
+ghost use Rattle.contents.specs.Refusals.{outcome};
 ghost use Rattle.contents.specs.Answers.{read_outcome, read_leaves};
-ghost use Rattle.volume.specs.Grids.{columns_on, missing_on, loss_on, recovered_on};
-ghost use Rattle.volume.specs.Slots.{slots_in};
+ghost use Rattle.volume.specs.Columns.{ColumnRead};
+ghost use Rattle.volume.specs.Grids.{grid_shape, grid_frontiers};
+ghost use Rattle.volume.specs.Slots.{members_in, slots_in};
 ghost use Rattle.contents.specs.Theorems.{Reading, Losing};
 ghost use Rattle.volume.specs.Volumes.{shape, members, frontiers, Kept};
 
@@ -25,8 +26,7 @@ impl<C: Code, L: Layout> Grid<C, L> {
         into: &mut [u8],
     ) -> Result<(), Refusal>
         requires sized { length into.old ≡ block_size }
-        ensures answered { outcome result ≡ (if not (is_some (columns_on L.Layout self.now (slots_in B.Bank bank.old) s t)) && nat_lt 2 (missing_on L.Layout self.now (slots_in B.Bank bank.old) s) then Err (with_loss 4 (loss_on self.now (slots_in B.Bank bank.old) s)) else Ok tt) }
-        ensures after { into.new ≡ (if is_ok result then recovered_on C.Code L.Layout self.now (slots_in B.Bank bank.old) s t else into.old) }
+        ensures read { ColumnRead (grid_shape C.Code L.Layout self.now) (members_in B.Bank bank.old) (grid_frontiers self.now) s t into.old into.new result }
         ensures same { slots_in B.Bank bank.new ≡ slots_in B.Bank bank.old }
     {
         if self.load(bank, s, t, into) {

@@ -1,13 +1,14 @@
 // Scrubs of a stripe: its unreadable columns are recovered and written anew.
-ghost use Rattle.std.specs.Prelude.{◌≡◌, ◌<◌, ◌≤◌, true, false, if◌then◌else◌, Ok, Err};
+ghost use Rattle.std.specs.Prelude.{◌≡◌, ◌<◌, ◌≤◌};
 ghost use Rattle.contents.specs.Columns.{status, is_unreadable};
-ghost use Rattle.contents.specs.Refusals.{outcome, with_loss};
-ghost use Rattle.contents.specs.Changes.{Moved, Steps, Put, Scrubbed, ScrubChanges};
+ghost use Rattle.contents.specs.Refusals.{outcome};
+ghost use Rattle.contents.specs.Changes.{Moved, Steps, Put, ScrubChanges};
 ghost use Rattle.contents.specs.Answers.{scrub_outcome};
-ghost use Rattle.contents.specs.Shapes.{lossy, Roomy};
-ghost use Rattle.volume.specs.Grids.{grid_shape, width, grid_frontiers, columns_on, loss_on, recovered_on};
+ghost use Rattle.contents.specs.Shapes.{Roomy};
+ghost use Rattle.volume.specs.Columns.{StripeScrubbed};
+ghost use Rattle.volume.specs.Grids.{grid_shape, width, grid_frontiers, columns_on, recovered_on};
 ghost use Rattle.volume.specs.Slots.{members_in, slots_in, Surveyed};
-ghost use Rattle.volume.specs.Tallies.{tally_of, with_standing, with_mend, counted};
+ghost use Rattle.volume.specs.Tallies.{tally_of, with_standing, with_mend};
 ghost use Rattle.contents.specs.Theorems.{Scrubbing, Losing};
 ghost use Rattle.volume.specs.Volumes.{shape, members, frontiers, Kept};
 
@@ -86,9 +87,7 @@ impl<C: Code, L: Layout> Grid<C, L> {
         s: usize,
     ) -> Result<(usize, usize, usize), Refusal>
         requires within { s < self.now.size.stripes }
-        ensures answered { outcome result ≡ (if lossy (grid_shape C.Code L.Layout self.now) (members_in B.Bank bank.old) (grid_frontiers self.now) s then Err (with_loss 4 (loss_on self.now (slots_in B.Bank bank.old) s)) else Ok (counted (grid_shape C.Code L.Layout self.now) (members_in B.Bank bank.old) (grid_frontiers self.now) s)) }
-        ensures taken { lossy (grid_shape C.Code L.Layout self.now) (members_in B.Bank bank.old) (grid_frontiers self.now) s ≡ false → Scrubbed (grid_shape C.Code L.Layout self.now) (members_in B.Bank bank.old) (grid_frontiers self.now) s (members_in B.Bank bank.new) }
-        ensures refused { lossy (grid_shape C.Code L.Layout self.now) (members_in B.Bank bank.old) (grid_frontiers self.now) s ≡ true → members_in B.Bank bank.new ≡ members_in B.Bank bank.old }
+        ensures scrubbed { StripeScrubbed (grid_shape C.Code L.Layout self.now) (members_in B.Bank bank.old) (grid_frontiers self.now) s (members_in B.Bank bank.new) result }
     {
         let survey = self.survey(bank, s);
         if survey.missing > 2 {

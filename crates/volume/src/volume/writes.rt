@@ -1,11 +1,12 @@
 // Writes to a volume: the difference that a block makes goes to its own column, to P and to Q.
-ghost use Rattle.std.specs.Prelude.{◌≡◌, ◌+◌, ◌<◌, true, false, length, if◌then◌else◌, Err};
+ghost use Rattle.std.specs.Prelude.{◌≡◌, ◌+◌, ◌<◌, length};
 ghost use Rattle.code.specs.Blocks.{◌⊕◌, block_size};
-ghost use Rattle.contents.specs.Refusals.{outcome, with_loss};
-ghost use Rattle.contents.specs.Changes.{Spread, WriteChanges};
+ghost use Rattle.contents.specs.Refusals.{outcome};
+ghost use Rattle.contents.specs.Changes.{WriteChanges};
 ghost use Rattle.contents.specs.Answers.{after_write, write_outcome};
-ghost use Rattle.contents.specs.Shapes.{lossy, Roomy};
-ghost use Rattle.volume.specs.Grids.{grid_shape, width, grid_frontiers, columns_on, loss_on, recovered_on};
+ghost use Rattle.contents.specs.Shapes.{Roomy};
+ghost use Rattle.volume.specs.Columns.{ColumnWritten};
+ghost use Rattle.volume.specs.Grids.{grid_shape, width, grid_frontiers, columns_on, recovered_on};
 ghost use Rattle.volume.specs.Slots.{members_in, slots_in, Surveyed};
 ghost use Rattle.volume.specs.Stores.{Stores};
 ghost use Rattle.contents.specs.Theorems.{Writing, Losing};
@@ -80,9 +81,7 @@ impl<C: Code, L: Layout> Grid<C, L> {
     ) -> Result<usize, Refusal>
         requires within { (s < self.now.size.stripes) × (c < width self.now) }
         requires sized { length bytes.now ≡ block_size }
-        ensures answered { outcome result ≡ (if lossy (grid_shape C.Code L.Layout self.now) (members_in B.Bank bank.old) (grid_frontiers self.now) s then Err (with_loss 4 (loss_on self.now (slots_in B.Bank bank.old) s)) else after_write (grid_shape C.Code L.Layout self.now) (members_in B.Bank bank.new) (grid_frontiers self.now) s) }
-        ensures taken { lossy (grid_shape C.Code L.Layout self.now) (members_in B.Bank bank.old) (grid_frontiers self.now) s ≡ false → Spread (grid_shape C.Code L.Layout self.now) (members_in B.Bank bank.old) (grid_frontiers self.now) s c bytes.now (members_in B.Bank bank.new) }
-        ensures refused { lossy (grid_shape C.Code L.Layout self.now) (members_in B.Bank bank.old) (grid_frontiers self.now) s ≡ true → members_in B.Bank bank.new ≡ members_in B.Bank bank.old }
+        ensures written { ColumnWritten (grid_shape C.Code L.Layout self.now) (members_in B.Bank bank.old) (grid_frontiers self.now) s c bytes.now (members_in B.Bank bank.new) result }
     {
         let survey = self.survey(bank, s);
         if survey.missing > 2 {

@@ -15,7 +15,7 @@ pub returns-then-load : goal.returns-then-load
 returns-then-load g c =
     let o = columns_on g.L.Layout c.args.self.now (slots_in g.B.Bank c.args.bank.now) c.args.s c.args.t in
     let h = loaded o c.args.into.now c.load.new.into c.if-load.ensures.current c.load.ensures.after in
-    record { answered = read_here o c.load.new.into _ _ h; after = c.load.ensures.after ∙ or_here o c.load.new.into _ _ h; same = c.load.ensures.same }
+    record { read = record { answered = read_here o c.load.new.into _ _ h; after = c.load.ensures.after ∙ or_here o c.load.new.into _ _ h }; same = c.load.ensures.same }
 
 pub rebuild-requires : goal.rebuild-requires
 rebuild-requires g c =
@@ -38,8 +38,10 @@ returns-then-survey-gt2 g c =
     let l : 2 < missing (cols ms) (k + 2) = omega arith in
     let e : c.loss.result ≡ loss_of (members_of ms) F c.args.self.now.size.slots c.args.s = c.loss.ensures.value ∙ ap (λ (x : Slots). loss_of (members_of x) F c.args.self.now.size.slots c.args.s) c.load.ensures.same in
     record {
-      answered = ap (λ (x : Loss). Err (with_loss 4 x)) e ∙ read_gone o (missing (cols ms) (k + 2)) (with_loss 4 (loss_of (members_of ms) F c.args.self.now.size.slots c.args.s)) h l;
-      after = c.load.ensures.after ∙ or_none o c.args.into.now h;
+      read = record {
+        answered = ap (λ (x : Loss). Err (with_loss 4 x)) e ∙ read_gone o (missing (cols ms) (k + 2)) (with_loss 4 (loss_of (members_of ms) F c.args.self.now.size.slots c.args.s)) h l;
+        after = c.load.ensures.after ∙ or_none o c.args.into.now h;
+      };
       same = c.load.ensures.same;
     }
 
@@ -52,7 +54,9 @@ returns g c =
     let m : c.survey-survey.result.missing ≡ missing (cols ms) (k + 2) = c.survey-survey.ensures.value.count ∙ ap (λ (x : Slots). missing (cols x) (k + 2)) c.load.ensures.same in
     let l : missing (cols ms) (k + 2) ≤ 2 = omega arith in
     record {
-      answered = read_two (cols ms c.args.t) (missing (cols ms) (k + 2)) _ l;
-      after = c.rebuild.ensures.value ∙ ap (λ (x : Slots). recovered C k (cols x) c.args.t) c.load.ensures.same;
+      read = record {
+        answered = read_two (cols ms c.args.t) (missing (cols ms) (k + 2)) _ l;
+        after = c.rebuild.ensures.value ∙ ap (λ (x : Slots). recovered C k (cols x) c.args.t) c.load.ensures.same;
+      };
       same = c.rebuild.ensures.same ∙ c.load.ensures.same;
     }

@@ -27,9 +27,11 @@ returns-then-survey-gt2 g c =
     let l : 2 < m = omega arith in
     let t = lt-ltb 2 m l in
     record {
-      answered = ap (λ (x : Loss). Err (with_loss 4 x)) c.loss.ensures.value ∙ sym (cond-true _ _ _ t);
-      taken = λ f. absurd (true≢false (sym t ∙ f));
-      refused = λ _. refl;
+      written = record {
+        answered = ap (λ (x : Loss). Err (with_loss 4 x)) c.loss.ensures.value ∙ sym (cond-true _ _ _ t);
+        taken = λ f. absurd (true≢false (sym t ∙ f));
+        refused = λ _. refl;
+      };
     }
 
 pub returns : goal.returns
@@ -49,7 +51,9 @@ returns g c =
     let valid = grid_valid g.C.Code g.L.Layout g.met.C.Code.lawful g.met.L.Layout.lawful c.args.self.now in
     let st = subst (λ (x : Slots). Stores (slot n s) F s (n - 2) c.args.c c.args.bytes.now c.parities.new.p c.parities.new.q (members_of x) N) c.parities.ensures.same c.spread.ensures.stored in
     record {
-      answered = c.after_write.ensures.answered ∙ sym (cond-false _ _ _ f);
-      taken = λ _. spread_of V valid M st.after_own st.after_P N F s c.args.c c.args.bytes.now c.parities.new.p c.parities.new.q c.requires.within.0 c.requires.within.1 c.parities.ensures.p c.parities.ensures.q st.own st.P st.Q;
-      refused = λ t. absurd (false≢true (sym f ∙ t));
+      written = record {
+        answered = c.after_write.ensures.answered ∙ sym (cond-false _ _ _ f);
+        taken = λ _. spread_of V valid M st.after_own st.after_P N F s c.args.c c.args.bytes.now c.parities.new.p c.parities.new.q c.requires.within.0 c.requires.within.1 c.parities.ensures.p c.parities.ensures.q st.own st.P st.Q;
+        refused = λ t. absurd (false≢true (sym f ∙ t));
+      };
     }

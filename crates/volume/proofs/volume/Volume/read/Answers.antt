@@ -53,5 +53,5 @@ returns g c =
     let old = c.args.buffer.now in
     let a = c.args.block in
     let l : a < z.stripes * (z.slots - 2) = subst (λ (x : ℕ). a < x) c.blocks-2.ensures.value c.if-block-blocks.false in
-    let d = read_within V M F a old c.if-buffer-ne-BLOCK.false l c.read_column.result c.read_column.new.into c.read_column.ensures.answered c.read_column.ensures.after in
+    let d = read_within V M F a old c.if-buffer-ne-BLOCK.false l c.read_column.result c.read_column.new.into c.read_column.ensures.read in
     record { answered = d.answered; after = d.after; same = c.read_column.ensures.same; kept = record { code = refl; layout = refl; size = refl; table = refl }; loss = losses _ M F; right = reads _ valid M F }

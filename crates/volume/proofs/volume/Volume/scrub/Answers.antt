@@ -32,5 +32,5 @@ returns g c =
     let z = v.grid.size in
     let valid = grid_valid g.C.Code g.L.Layout g.met.C.Code.lawful g.met.L.Layout.lawful v.grid in
     let s = c.args.stripe in
-    let d = scrub_within V M F s c.if-stripe-self.false N c.scrub_stripe.result c.scrub_stripe.ensures.answered c.scrub_stripe.ensures.taken c.scrub_stripe.ensures.refused in
+    let d = scrub_within V M F s c.if-stripe-self.false N c.scrub_stripe.result c.scrub_stripe.ensures.scrubbed in
     record { answered = d.answered; changes = d.changes; kept = record { code = refl; layout = refl; size = refl; table = refl }; loss = losses _ M F; right = λ room. scrubs _ valid M F room s N d.changes }

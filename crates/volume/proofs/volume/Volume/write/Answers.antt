@@ -68,5 +68,5 @@ returns g c =
     let a = c.args.block in
     let N = members_in g.B.Bank c.write_column.new.bank in
     let l : a < z.stripes * (z.slots - 2) = subst (λ (x : ℕ). a < x) c.blocks-2.ensures.value c.if-block-blocks.false in
-    let d = write_within V M F a old c.if-bytes-ne-BLOCK.false l N c.write_column.result c.write_column.ensures.answered c.write_column.ensures.taken c.write_column.ensures.refused in
+    let d = write_within V M F a old c.if-bytes-ne-BLOCK.false l N c.write_column.result c.write_column.ensures.written in
     record { answered = d.answered; changes = d.changes; kept = record { code = refl; layout = refl; size = refl; table = refl }; loss = losses _ M F; right = λ room. writes _ valid M F room a old N (record { long = refl; bytes = λ i. (c.type_inv.bytes i).fits }) d.changes }

@@ -1,8 +1,9 @@
-use Rattle.std.proofs.Common.{◌≡◌, sym, refl, ap, ◌∙◌, subst, arith}
+use Rattle.std.proofs.Common.{◌≡◌, sym, refl, ap, ◌∙◌, subst, unwrap_or, arith, rules}
 use Rattle.bank.specs.Slots.{told}
 use Rattle.contents.specs.Shapes.{Shape, Valid, Roomy, formed}
 use Rattle.contents.proofs.Forming.{forms}
 use Rattle.contents.proofs.Keeping.{formats}
+use Rattle.volume.specs.Forming.{parts_size}
 use Rattle.volume.specs.Sizes.{shape_at}
 use Rattle.volume.specs.Slots.{members_of, frontier_of}
 use Rattle.volume.proofs.Formatting.{parts_form}
@@ -18,8 +19,8 @@ returns g c =
     let n = told ms.size in
     let M = members_of ms in
     let N = members_of (g.B.Bank.meaning (g.B.Bank.state c.zero_stripes.new.bank)) in
-    let z = c.parts_size-size.result in
-    let e = c.parts_size-size.ensures.value in
+    let z = c.unwrap_or_default-size.result in
+    let e : z ≡ parts_size C.limit n M = (let k : z ≡ unwrap_or c.parts_size.result (record { slots = 0; stripes = 0 }) = search rules in k ∙ c.parts_size.ensures.value) in
     let V = shape_at C slot column z in
     let made : V ≡ formed C slot column n M = ap (shape_at C slot column) e ∙ parts_form C slot column n M in
     let good = forms C (g.met.C.Code.lawful b.code) slot column (g.met.L.Layout.lawful b.layout) n M in
