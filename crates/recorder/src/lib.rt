@@ -6,12 +6,13 @@ ghost use Rattle.std.specs.Prelude.{◌≡◌, ◌<◌, true, false, IfOk, strin
 ghost use Rattle.script.specs.Format.{is_script, entry_count, operation_count, code_at};
 ghost use Rattle.remap.specs.Places.{table_of, unmoved, kept_back};
 ghost use Rattle.recorder.specs.Planned.{with_planned, planned};
-ghost use Rattle.bank.specs.Chains.{no_members};
-ghost use Rattle.recorder.specs.Slots.{slot_meaning, image_slot, image_slots, recorder_slots, stack_means, cell_means, image_means, chain_means};
+ghost use Rattle.volume.specs.Slots.{slots_in};
+ghost use Rattle.recorder.specs.Slots.{slot_meaning, image_slot, image_slots, recorder_slots, stack_means, image_means};
 ghost use Rattle.recorder.specs.Runs.{ActStep, AllLines, Replayed, coding_of};
 ghost use Rattle.script.specs.Text.{bad_script};
 
 use acts::{act, numbers};
+use bank::Bank;
 use bank::chain::Link;
 use bank::empty::NoMembers;
 use code::Code;
@@ -82,7 +83,7 @@ fn image(heap: Global, script: &Script, slot: usize) -> Result<Stack<Image>, All
 
 // The slots from 3 on.
 fn images(heap: Global, script: &Script) -> Result<Images, AllocError>
-    ensures made { IfOk result (λ b. chain_means image_means (chain_means image_means (chain_means image_means (λ _. no_members))) b ≡ image_slots script.now.bytes.items) }
+    ensures made { IfOk result (λ b. slots_in ⟦<Images as Bank>⟧ b ≡ image_slots script.now.bytes.items) }
 {
     let third = image(heap, script, 3)?;
     let fourth = image(heap, script, 4)?;
@@ -100,7 +101,7 @@ fn images(heap: Global, script: &Script) -> Result<Images, AllocError>
 
 // All slots, with the script's entries. Those for slots that there are not are dropped.
 fn slots(heap: Global, script: &Script) -> Result<Slots, AllocError>
-    ensures made { IfOk result (λ b. chain_means cell_means (chain_means cell_means (chain_means cell_means (chain_means image_means (chain_means image_means (chain_means image_means (λ _. no_members)))))) b ≡ recorder_slots script.now.bytes.items) }
+    ensures made { IfOk result (λ b. slots_in ⟦<Slots as Bank>⟧ b ≡ recorder_slots script.now.bytes.items) }
 {
     let rest = images(heap, script)?;
     let rest = Link {
