@@ -1,8 +1,8 @@
 // Recovery of one column of a stripe whose columns are all at hand.
-ghost use Rattle.std.specs.Prelude.{◌≡◌, ℕ, ◌+◌, ◌-◌, ◌<◌, ◌≤◌, true, false, ◌&&◌, List, ◌∷◌, length, is_ok, is_some, if◌then◌else◌, Some, None, slice_index_or};
-ghost use Rattle.code.specs.Blocks.{◌⊕◌, block_size, zeros};
+ghost use Rattle.std.specs.Prelude.{◌≡◌, ℕ, ◌+◌, ◌-◌, ◌≤◌, true, false, List, length, is_ok, is_some, if◌then◌else◌};
+ghost use Rattle.code.specs.Blocks.{block_size, zeros};
 ghost use Rattle.code.specs.Answers.{answer, sized};
-ghost use Rattle.parity.specs.Stripe.{Content, Fits, column, gaps, missing, plain_part, mixed_part, if_present, plain_sum, mixed_sum};
+ghost use Rattle.parity.specs.Stripe.{Content, Fits, column, gaps, missing, plain_sum, mixed_sum};
 ghost use Rattle.parity.specs.Ways.{takes_plain, takes_mixed, recovered};
 ghost use Rattle.recovery.specs.Answers.{stripe_answer, shaped, on_recover};
 ghost use Rattle.recovery.specs.Columns.{columns_of};

@@ -5,7 +5,7 @@ ghost use Rattle.recovery.specs.Losses.{listed, noted};
 
 use parity::Way;
 
-// The two highest missing data columns, the highest first.
+// The two highest missing data columns, the highest first. Nested options would need two matches where this needs one.
 #[derive(Clone, Copy)]
 pub enum Lost {
     Nothing,

@@ -1,4 +1,6 @@
 // The plain sum and the mixed sum of a stripe's present columns, one column at a time.
+// The way, the number of data columns and both sums stay parameters: a struct that holds a `&mut` can have no ghost field, so each of its
+// methods would still ask for the sizes, and promise besides that it keeps both references.
 ghost use Rattle.std.specs.Prelude.{◌≡◌, ◌<◌, ◌&&◌, length, is_ok, if◌then◌else◌};
 ghost use Rattle.code.specs.Blocks.{◌⊕◌, block_size};
 ghost use Rattle.code.specs.Answers.{answer, sized};

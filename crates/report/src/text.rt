@@ -5,7 +5,7 @@ ghost use Rattle.report.specs.Text.{hex, parity_line, pair_line, count_line};
 use notation::hex::push_hex;
 use std::alloc::AllocError;
 
-// Appends each byte of `block` as two digits.
+// Appends each byte of `block` as two digits. A type with `Display` would hold the same loop, and one more contract.
 fn push_block(out: &mut String, block: &[u8]) -> Result<(), AllocError>
     ensures made { OnOk result (string_bytes out.new ≡ string_bytes out.old ++ hex block.now) }
 {

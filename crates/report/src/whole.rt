@@ -25,22 +25,23 @@ impl<'a, C: Code> WholeStripe<'a, C> {
     pub(crate) fn of(
         heap: Global,
         code: &'a C,
-        data: &[[u8; BLOCK]],
+        blocks: &[[u8; BLOCK]],
     ) -> Result<WholeStripe<'a, C>, AllocError>
-        requires some { 0 < length data.now }
-        requires few { length data.now ≤ 16 }
-        requires sized { Content (length data.now) (content data.now) }
-        requires limit { length data.now ≤ (C.Code.coding code.now).limit }
+        requires some { 0 < length blocks.now }
+        requires few { length blocks.now ≤ 16 }
+        requires sized { Content (length blocks.now) (content blocks.now) }
+        requires limit { length blocks.now ≤ (C.Code.coding code.now).limit }
         ensures code { IfOk result (λ s. s.code.now ≡ code.now) }
-        ensures made { IfOk result (λ s. Made data.now s.columns.items) }
+        ensures made { IfOk result (λ s. Made blocks.now s.columns.items) }
     {
-        let mut columns = Vec::with_capacity(heap, data.len() + 2)?;
-        for block in data {
+        let mut columns = Vec::with_capacity(heap, blocks.len() + 2)?;
+        for block in blocks {
             columns.push(*block)?;
         }
         let mut p = [0u8; BLOCK];
         let mut q = [0u8; BLOCK];
-        let _ = encode(code, data, &mut p, &mut q);
+        // This is not refused: the data columns are no more than the code can have.
+        let _ = encode(code, blocks, &mut p, &mut q);
         columns.push(p)?;
         columns.push(q)?;
         Ok(WholeStripe { code, columns })

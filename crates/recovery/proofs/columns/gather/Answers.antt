@@ -1,11 +1,9 @@
-use Rattle.std.proofs.Common.{◌≡◌, ◌+◌, cond, get_or, None, refl, ◌∙◌, subst, arith}
-use Rattle.code.specs.Blocks.{zeros}
+use Rattle.std.proofs.Common.{◌≡◌, get_or, None, ◌∙◌, arith}
 use Rattle.code.specs.Answers.{answer}
 use Rattle.code.proofs.Blocks.{length_zeros}
-use Rattle.parity.specs.Stripe.{plain_part, mixed_part, plain_sum, mixed_sum}
+use Rattle.parity.specs.Stripe.{plain_part, mixed_part}
 use Rattle.parity.specs.Ways.{takes_plain, takes_mixed}
 use Rattle.parity.proofs.Sums.{sum_none}
-use Rattle.recovery.specs.Columns.{columns_of}
 use Rattle.recovery.proofs.Marks.{needed_none, needed_step, present_added, absent_kept}
 use Rattle.recovery.proofs.Outcomes.{never, stripe_taken, good_three}
 use Rattle.recovery.proofs.columns.gather.Goals as goal
@@ -41,13 +39,3 @@ loop-t-preserved g c =
         mixed = needed_step _ _ _ _ _ sums.mixed (absent_kept (takes_mixed way) (mixed_part C k t) o c.loop-t.mixed c.match-column.mixed w.in_default.is (c.loop-t.auto.mixed ∙ length_zeros _ c.requires.empty.1) w.mixed-is);
       }
     ]
-
-pub returns : goal.returns
-returns g c =
-    let e : c.loop-t.t ≡ c.args.k + 2 = omega (arith, c.requires.shape.1) in
-    let cols = columns_of c.args.columns.now in
-    record {
-      answered = refl;
-      plain = subst (λ n. c.loop-t.plain ≡ cond (takes_plain c.args.way) (plain_sum c.args.k cols n) zeros) e c.loop-t.invariant.plain;
-      mixed = subst (λ n. c.loop-t.mixed ≡ cond (takes_mixed c.args.way) (mixed_sum (g.C.Code.coding c.args.code.now) c.args.k cols n) zeros) e c.loop-t.invariant.mixed;
-    }

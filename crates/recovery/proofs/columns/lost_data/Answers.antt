@@ -1,8 +1,6 @@
-use Rattle.std.proofs.Common.{◌≡◌, ◌<◌, None, is_some, sym, ap, ◌∙◌, subst, arith, length-take}
+use Rattle.std.proofs.Common.{◌<◌, None, is_some, sym, ap, ◌∙◌, arith, length-take}
 use Rattle.std.proofs.lemmas.List.{get_or-take}
-use Rattle.parity.specs.Stripe.{gaps}
 use Rattle.parity.proofs.Gaps.{gaps_none}
-use Rattle.recovery.specs.Columns.{columns_of}
 use Rattle.recovery.specs.Losses.{noted}
 use Rattle.recovery.proofs.Marks.{lost_next}
 use Rattle.recovery.proofs.columns.lost_data.Goals as goal
@@ -16,8 +14,3 @@ loop-t-preserved c =
     let below : c.loop-t.t < c.args.k = omega (arith, length-take c.args.k columns) in
     lost_next columns c.loop-t.t _ _ c.loop-t.invariant
     (rw (c.is_some.ensures ∙ ap is_some (get_or-take c.args.k columns c.loop-t.t None below)) at c.note.ensures.after)
-
-pub returns : goal.returns
-returns c =
-    let e : c.loop-t.t ≡ c.args.k = omega (arith, length-take c.args.k c.args.columns.now) in
-    record { value = subst (λ n. c.loop-t.lost ≡ noted (gaps (columns_of c.args.columns.now) n)) e c.loop-t.invariant }
