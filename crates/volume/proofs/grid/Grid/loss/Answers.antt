@@ -14,4 +14,4 @@ with_status-loss-requires g c =
 pub loop-slot-preserved : goal.loop-slot-preserved
 loop-slot-preserved g c =
     let h : c.loop-slot.slot < 18 = omega (arith, c.args.self.now.fitting.most) in
-    loss_step _ _ _ _ _ _ _ _ c.status_of.ensures.value (bit_is c.loop-slot.slot h) c.loop-slot.invariant c.with_status-loss.ensures.value
+    loss_step _ _ _ _ _ _ _ _ c.status.ensures.value (bit_is c.loop-slot.slot h) c.loop-slot.invariant c.with_status-loss.ensures.value
