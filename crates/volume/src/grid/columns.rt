@@ -84,8 +84,8 @@ impl<C: Code, L> Grid<C, L> {
     }
 
     // What is lost of stripe `s`, slot by slot; asked only where a call is refused for it. Out of line it makes a read half as slow again,
-    // whose answer then goes through memory.
-    #[inline(always)]
+    // since the read's answer then goes through memory.
+    #[inline]
     pub fn loss<B: Bank>(&self, bank: &B, s: usize) -> Loss
         ensures value { result ≡ loss_on self.now (slots_in B.Bank bank.now) s }
     {
