@@ -1,4 +1,4 @@
-use Rattle.std.proofs.Common.{◌≡◌, ℕ, ◌+◌, ◌-◌, ◌<◌, ◌≤◌, true, false, List, length, sym, refl, ap, ◌∙◌, subst, arith}
+use Rattle.std.proofs.Common.{◌≡◌, ℕ, ◌+◌, ◌-◌, ◌<◌, ◌≤◌, true, false, List, length, refl, ap, ◌∙◌, subst, arith}
 use Rattle.parity.specs.Ways.{recovered}
 use Rattle.member.specs.Changes.{Written}
 use Rattle.bank.specs.Slots.{Slots}

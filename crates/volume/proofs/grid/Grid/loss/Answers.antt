@@ -1,4 +1,4 @@
-use Rattle.std.proofs.Common.{◌<◌, refl, arith}
+use Rattle.std.proofs.Common.{◌<◌, arith}
 use Rattle.contents.proofs.Masks.{loss_none}
 use Rattle.volume.proofs.Surveying.{loss_room, loss_step, bit_is}
 use Rattle.volume.proofs.grid.Grid.loss.Goals as goal

@@ -1,5 +1,4 @@
-use Rattle.std.proofs.Common.{sym, refl, subst, arith}
-use Rattle.contents.specs.Refusals.{outcome}
+use Rattle.std.proofs.Common.{sym, refl, subst}
 use Rattle.contents.specs.Records.{Records}
 use Rattle.contents.specs.Rebuilds.{FitsOver}
 use Rattle.contents.proofs.Rebuilding.{closes}

@@ -1,4 +1,4 @@
-use Rattle.std.proofs.Common.{Err, sym, refl, ap, ◌∙◌, subst, arith}
+use Rattle.std.proofs.Common.{Err, sym, refl, ap, ◌∙◌, subst}
 use Rattle.std.proofs.lemmas.Result.{err_from_is_err_and}
 use Rattle.contents.specs.declared.Refusal.{Refusal}
 use Rattle.contents.specs.Refusals.{outcome}
