@@ -1,5 +1,5 @@
 // Replacement of a slot's member, and the rebuild of what it should hold, stripe by stripe, while the volume is in use.
-ghost use Rattle.std.specs.Prelude.{◌≡◌, ◌<◌, ◌≤◌, true, false, is_ok, if◌then◌else◌, None, Err};
+ghost use Rattle.std.specs.Prelude.{◌≡◌, ◌<◌, ◌≤◌, true, is_ok, if◌then◌else◌};
 ghost use Rattle.contents.specs.declared.SlotEvent.TheVariants.{Opened, Closed};
 ghost use Rattle.contents.specs.Refusals.{outcome};
 ghost use Rattle.contents.specs.Records.{frontiers};
