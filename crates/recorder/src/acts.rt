@@ -39,7 +39,7 @@ fn union(loss: Loss) -> usize
     loss.gone as usize | loss.behind as usize | loss.unreadable as usize
 }
 
-// The refusal and the value of a line: 0 and what was answered; or the refusal's number, and the slots that it names.
+// The refusal and the value of a line, which prints numbers: 0 and what was answered; or the refusal's number, and the slots that it names.
 pub(crate) fn numbers(answer: Result<usize, ActRefusal>) -> (u8, usize)
     ensures value { result ≡ told_line answer }
 {

@@ -67,6 +67,7 @@ fn stack<M: Member>(below: M, script: &Script, slot: usize) -> Stack<M>
     ensures meaning { stack_means (λ m. M.Member.meaning (M.Member.state m)) result ≡ slot_meaning (M.Member.meaning (M.Member.state below)) script.now.bytes.items slot }
 {
     let mut layer = FaultLayer::new(below);
+    // An iterator of entries would count the places too, since the bytes of an entry lie apart.
     for i in 0..script.entries() {
         plan_entry(&mut layer, script.entry(i), slot);
     }
@@ -151,6 +152,7 @@ fn lines<V: AnyVolume + Drop>(
     ensures made { IfOk result (λ s. AllLines (V.shape volume) script.now.bytes.items (V.state volume) (string_bytes s)) }
 {
     let mut out = String::new(heap);
+    // The line of an operation has its place, so that an iterator of operations would only count it once more.
     for i in 0..script.operations() {
         step(&mut volume, script, i, &mut out)?;
     }

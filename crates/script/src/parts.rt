@@ -5,7 +5,7 @@ ghost use Rattle.script.specs.Acts.{act_of};
 // The code that a volume is to have.
 pub use notation::codes::CodeName;
 
-// A fault that is planned for the member in a slot.
+// A fault that is planned for the member in a slot. Its kind is the script's byte, whether a kind of fault has that number or not.
 #[derive(Clone, Copy, PartialEq, Eq, Debug)]
 pub struct Entry {
     pub kind: u8,
