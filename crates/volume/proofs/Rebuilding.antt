@@ -1,7 +1,6 @@
 -- What events on a slot and steps of a rebuild answer and change, check by check.
-use Rattle.std.proofs.Common.{◌≡◌, ℕ, ◌+◌, ◌<◌, ◌≤◌, Bool, true, false, cond, not, ◌&&◌, ltb, List, length, get_or, set, is_some, is_ok, Some, None, Ok, Err, Option, Result, sym, refl, ap, ◌∙◌, subst, ap₂, ⊎_elim, arith, get_or-set_other, get_or-set_same}
-use mathlib.Core.Path.{fun_ext}
-use Rattle.std.proofs.lemmas.Bool.{false≢true, cases_eq, cases_lt, cond-true, cond-false, eq-eqb, ne_eqb, lt-ltb, le-ltb, and_parts, not-true, not-false}
+use Rattle.std.proofs.Common.{◌≡◌, ℕ, ◌+◌, ◌<◌, ◌≤◌, Bool, true, false, cond, not, ◌&&◌, ltb, List, length, is_some, is_ok, Some, None, Ok, Err, Option, Result, sym, refl, ap, ◌∙◌, subst, ap₂, ⊎_elim, arith}
+use Rattle.std.proofs.lemmas.Bool.{false≢true, cases_lt, cond-true, cond-false, lt-ltb, le-ltb, and_parts, not-true, not-false}
 use Rattle.code.specs.Blocks.{block_size}
 use Rattle.member.specs.Faults.{Refusal}
 use Rattle.member.specs.Meaning.{Meaning, write_refusal}
@@ -11,43 +10,23 @@ use Rattle.bank.specs.Slots.{Slots, on_slot, bank_refusal}
 use Rattle.bank.specs.Changes.{Changed}
 use Rattle.contents.specs.declared.SlotState.{SlotState}
 use Rattle.contents.specs.declared.SlotState.TheVariants.{Idle, Open}
-use Rattle.contents.specs.declared.SlotEvent.{SlotEvent}
 use Rattle.contents.specs.declared.SlotEvent.TheVariants.{Stepped}
-use Rattle.contents.specs.declared.SlotRecord.{SlotRecord}
 use Rattle.contents.specs.Columns.{Members, Frontiers, held}
 use Rattle.contents.specs.declared.Loss.{Loss}
 use Rattle.contents.specs.declared.Refusal.{Refusal as CallRefusal}
 use Rattle.contents.specs.declared.Refusal.TheVariants.{Lost, Failed}
 use Rattle.contents.specs.Refusals.{Told, plain, with_loss, outcome, answering}
-use Rattle.contents.specs.Records.{Records, frontiers, is_open, idle_at, with_record, slot_after, slot_answer, answer_by}
+use Rattle.contents.specs.Records.{Records, frontiers, is_open, with_record, slot_after, slot_answer, answer_by}
 use Rattle.contents.specs.Shapes.{Shape, Roomy, missing_at, lossy, loss_at, recovered_at}
 use Rattle.contents.specs.Changes.{Moved}
-use Rattle.contents.specs.Rebuilds.{event_outcome, event_records, open_here, rebuilt, step_outcome, step_takes, fault_of, step_fault, StepChanges}
+use Rattle.contents.specs.Rebuilds.{event_records, open_here, rebuilt, step_outcome, step_takes, fault_of, step_fault, StepChanges}
 use Rattle.contents.proofs.Statuses.{shown, held_is}
 use Rattle.volume.specs.Columns.{ColumnRebuilt}
-use Rattle.volume.specs.Slots.{members_of, records_of}
+use Rattle.volume.specs.Slots.{members_of}
 use Rattle.volume.proofs.Looking.{members_here, members_beyond, members_empty}
 use Rattle.volume.proofs.Walking.{moved_of, written_moved}
 
--- ---- one record of a table
-pub row_placed : (rows : List SlotRecord) (i : ℕ) (x : SlotRecord) → i < length rows → records_of (set rows i x) ≡ with_record (records_of rows) i x
-row_placed rows i x l = fun_ext (λ j.
-    ⊎_elim
-    (λ (e : j ≡ i). ap (λ (y : ℕ). get_or (set rows i x) y (idle_at 0)) e ∙ get_or-set_same rows i x (idle_at 0) l ∙ sym (cond-true _ _ _ (eq-eqb j i e)))
-    (λ (n : j ≡ i → ⊥). get_or-set_other rows i j x (idle_at 0) n ∙ sym (cond-false _ _ _ (ne_eqb j i n)))
-    (cases_eq j i))
-
 -- ---- an event on a slot
-pub record EventDone (V : Shape) (R : Records) (i : ℕ) (e : SlotEvent) (absent : Told) (Q : Records) (r : Result ℕ Told) : Type 0 where
-  pub answered : r ≡ event_outcome V R i e absent
-  pub records : Q ≡ event_records V R i e
-
-pub event_done : (V : Shape) (R : Records) (i : ℕ) (e : SlotEvent) (absent : Told) (Q : Records) (r : Result ℕ Told) → i < V.slots
-    → Q ≡ with_record R i (slot_after V.stripes (R i) e) → r ≡ slot_answer V.stripes (R i) e → EventDone V R i e absent Q r
-event_done V R i e absent Q r l q a =
-    let t = lt-ltb i V.slots l in
-    record { answered = a ∙ sym (cond-true _ _ _ t); records = q ∙ sym (cond-true _ _ _ t) }
-
 pub answering_ok : {U W : Type 0} (w : W) (r : Result U Told) (u : U) → Ok u ≡ r → Ok w ≡ answering w r
 answering_ok {U} {W} w r u e = ap (answering {U = U} {W = W} w) e
 
@@ -137,35 +116,9 @@ pub record StepDone (V : Shape) (M : Members) (R : Records) (i : ℕ) (N : Membe
   pub changes : StepChanges V M R i N Q
 
 module _ (V : Shape) (M : Members) (R : Records) (i : ℕ) where
-  -- a step that meets a check before that for loss
-  pub step_closed : open_here V R i ≡ false → StepDone V M R i M R (Err (plain 8))
-  step_closed e =
-      let a = sym (cond-false _ _ _ e) in
-      record { answered = a; changes = record { taken = λ t. absurd (false≢true (sym e ∙ (and_parts (open_here V R i) _ t).0)); refused = λ _. refl; records = sym (cond-false _ _ _ (sym (ap is_ok a))) } }
-
-  pub step_whole : open_here V R i ≡ true → V.stripes ≤ (R i).frontier → StepDone V M R i M R (Err (plain 7))
-  step_whole e l =
-      let b = le-ltb (R i).frontier V.stripes l in
-      let a = sym (cond-true _ _ _ e ∙ cond-false _ _ _ b) in
-      record {
-        answered = a;
-        changes = record {
-          taken = λ t. absurd (false≢true (sym b ∙ (and_parts (ltb (R i).frontier V.stripes) _ (and_parts (open_here V R i) _ t).1).0));
-          refused = λ _. refl;
-          records = sym (cond-false _ _ _ (sym (ap is_ok a)));
-        };
-      }
-
-  module _ (eo : open_here V R i ≡ true) (lf : (R i).frontier < V.stripes) (N : Members)
-      (moved : lossy V M (frontiers R) (R i).frontier ≡ false
-      → Moved (λ m n. Written m (R i).frontier (recovered_at V M (frontiers R) (R i).frontier (V.back (R i).frontier i)) n) i M N)
-      (left : lossy V M (frontiers R) (R i).frontier ≡ true → N ≡ M) where
+  module _ (eo : open_here V R i ≡ true) (lf : (R i).frontier < V.stripes) (N : Members) (w : Result Unit CallRefusal) (d : ColumnRebuilt V M (frontiers R) (R i).frontier i N w) where
     abbrev lost : Bool
     lost = lossy V M (frontiers R) (R i).frontier
-
-    -- what the write to the member answers
-    abbrev after : Result Unit Told
-    after = cond lost (Err (with_loss 4 (loss_at V M (frontiers R) (R i).frontier))) (column_answer (write_refusal (M i) (R i).frontier block_size) (R i).frontier)
 
     takes_is : step_takes V M R i ≡ not lost
     takes_is = ap₂ (λ (a b : Bool). a && (b && not lost)) eo (lt-ltb (R i).frontier V.stripes lf)
@@ -178,11 +131,11 @@ module _ (V : Shape) (M : Members) (R : Records) (i : ℕ) where
     turned false o = refl
 
     -- a step carries the fault of its write
-    pub fault_is : cond lost None (write_refusal (M i) (R i).frontier block_size) ≡ step_fault V M R i
-    fault_is = turned lost (write_refusal (M i) (R i).frontier block_size) ∙ ap (λ (b : Bool). cond b (write_refusal (M i) (R i).frontier block_size) None) (sym takes_is)
+    pub carried : Roomy V M → fault_of w ≡ step_fault V M R i
+    carried room = d.fault room ∙ turned lost (write_refusal (M i) (R i).frontier block_size) ∙ ap (λ (b : Bool). cond b (write_refusal (M i) (R i).frontier block_size) None) (sym takes_is)
 
     changed : (Q : Records) → Q ≡ cond (is_ok (step_outcome V M R i)) (event_records V R i Stepped) R → StepChanges V M R i N Q
-    changed Q q = record { taken = λ t. moved (not-true _ (sym takes_is ∙ t)); refused = λ t. left (not-false _ (sym takes_is ∙ t)); records = q }
+    changed Q q = record { taken = λ t. d.taken (not-true _ (sym takes_is ∙ t)); refused = λ t. d.refused (not-false _ (sym takes_is ∙ t)); records = q }
 
     err_by : (b : Bool) (t u : Told) (o : Option Refusal) (f : ℕ) → ◌≡◌ {A = Result Unit Told} (Err u) (cond b (Err t) (column_answer o f)) → ◌≡◌ {A = Result ℕ Told} (Err u) (cond b (Err t) (rebuilt o f))
     err_by true t u o f e = let d : u ≡ t = cc in ap Err d
@@ -195,9 +148,9 @@ module _ (V : Shape) (M : Members) (R : Records) (i : ℕ) where
     ok_by false t (Some x) f e = absurd (let z : ◌≡◌ {A = ℕ} 0 1 = cc in omega arith)
 
     -- the column was not written, or the member refused it
-    pub step_failed : (t : Told) → Err t ≡ after → StepDone V M R i N R (Err t)
-    step_failed t e =
-        let a : Err t ≡ step_outcome V M R i = err_by lost _ t (write_refusal (M i) (R i).frontier block_size) (R i).frontier e ∙ sym outcome_is in
+    pub step_failed : Roomy V M → (t : Told) → Err t ≡ outcome w → StepDone V M R i N R (Err t)
+    step_failed room t e =
+        let a : Err t ≡ step_outcome V M R i = err_by lost _ t (write_refusal (M i) (R i).frontier block_size) (R i).frontier (e ∙ d.answered room) ∙ sym outcome_is in
         record { answered = a; changes = changed R (sym (cond-false _ _ _ (sym (ap is_ok a)))) }
 
     state_open : (x : SlotState) → is_open x ≡ true → x ≡ Open
@@ -219,10 +172,10 @@ module _ (V : Shape) (M : Members) (R : Records) (i : ℕ) where
     raised_faultless r e = ok_faultless r ((R i).frontier + 1) (e ∙ answer_is)
 
     -- the member took it
-    pub step_made : Ok tt ≡ after → (Q : Records) (r : Result ℕ Told) → Q ≡ with_record R i (slot_after V.stripes (R i) Stepped) → r ≡ slot_answer V.stripes (R i) Stepped
+    pub step_made : Roomy V M → Ok tt ≡ outcome w → (Q : Records) (r : Result ℕ Told) → Q ≡ with_record R i (slot_after V.stripes (R i) Stepped) → r ≡ slot_answer V.stripes (R i) Stepped
         → StepDone V M R i N Q r
-    step_made e Q r q s =
-        let a : Ok ((R i).frontier + 1) ≡ step_outcome V M R i = ok_by lost _ (write_refusal (M i) (R i).frontier block_size) (R i).frontier e ∙ sym outcome_is in
+    step_made room e Q r q s =
+        let a : Ok ((R i).frontier + 1) ≡ step_outcome V M R i = ok_by lost _ (write_refusal (M i) (R i).frontier block_size) (R i).frontier (e ∙ d.answered room) ∙ sym outcome_is in
         let li = (and_parts (ltb i V.slots) (is_open (R i).state) eo).0 in
         record { answered = s ∙ answer_is ∙ a; changes = changed Q (q ∙ sym (cond-true _ _ _ li) ∙ sym (cond-true _ _ _ (sym (ap is_ok a)))) }
 
@@ -230,7 +183,3 @@ module _ (V : Shape) (M : Members) (R : Records) (i : ℕ) where
 pub open_some : (b : Bool) (f s : ℕ) → Some s ≡ cond b (Some f) None → (b ≡ true) × (f ≡ s)
 open_some true f s e = (refl, cc)
 open_some false f s e = absurd (let z : ◌≡◌ {A = ℕ} 0 1 = cc in omega arith)
-
-pub open_none : (b : Bool) (f : ℕ) → None ≡ cond b (Some f) None → b ≡ false
-open_none true f e = absurd (let z : ◌≡◌ {A = ℕ} 0 1 = cc in omega arith)
-open_none false f e = refl

@@ -110,10 +110,6 @@ loss_by Gone l b = simp add-zero
 loss_by Behind l b = simp add-zero
 loss_by Unreadable l b = simp add-zero
 
-loss_stripe : (M : Members) (F : Frontiers) (n s : ℕ) → (loss_of M F n s).stripe ≡ s
-unfolding loss_of
-loss_stripe M F n s = refl
-
 pub loss_step : (M : Members) (F : Frontiers) (n s b : ℕ) (x : Status) (l r : Loss) → x ≡ status M F s n → b ≡ 2 ^ n → l ≡ loss_of M F n s → r ≡ with_status l x b
     → r ≡ loss_of M F (n + 1) s
 unfolding loss_of

@@ -1,9 +1,8 @@
 -- What a grid tells of the columns that lie in the slots of a bank.
-use Rattle.std.specs.Prelude.{ℕ, ◌+◌, ◌-◌, List, Option}
+use Rattle.std.specs.Prelude.{ℕ, ◌-◌, List, Option}
 use Rattle.bank.specs.Slots.{Slots}
 use Rattle.code.specs.declared.Code.{Ghosts as Code}
 use Rattle.layout.specs.declared.Layout.{Ghosts as Layout}
-use Rattle.parity.specs.Stripe.{missing}
 use Rattle.parity.specs.Ways.{recovered}
 use Rattle.contents.specs.declared.Loss.{Loss}
 use Rattle.contents.specs.Columns.{Frontiers, columns, loss_of}
@@ -30,10 +29,6 @@ grid_records x = records_of x.table.rows
 -- the columns of stripe s
 abbrev pub columns_on : {C L : Type 0} {K : Code C} → Layout L → Grid C L K → Slots → ℕ → ℕ → Option (List ℕ)
 columns_on J x ms s = columns (members_of ms) (grid_frontiers x) (J.slot x.layout x.size.slots) s
-
--- how many of them are missing
-abbrev pub missing_on : {C L : Type 0} {K : Code C} → Layout L → Grid C L K → Slots → ℕ → ℕ
-missing_on J x ms s = missing (columns_on J x ms s) (width x + 2)
 
 -- what is lost of the stripe
 abbrev pub loss_on : {C L : Type 0} {K : Code C} → Grid C L K → Slots → ℕ → Loss
