@@ -1,5 +1,5 @@
 -- What is missing of a stripe, column by column, and what is lost, slot by slot.
-use Rattle.std.proofs.Common.{◌≡◌, ℕ, zero, suc, ◌+◌, ◌*◌, ◌%◌, ◌^◌, ◌<◌, ◌≤◌, Bool, true, false, cond, not, List, [], ◌∷◌, length, is_some, Option, sym, refl, ap, ◌∙◌, ap₂, add-zero, add_assoc, pow-suc, arith, pow_mono, pow-add}
+use Rattle.std.proofs.Common.{◌≡◌, ℕ, zero, suc, ◌+◌, ◌*◌, ◌%◌, ◌^◌, ◌<◌, ◌≤◌, Bool, true, false, cond, not, List, [], ◌∷◌, length, is_some, Option, sym, refl, ap, ◌∙◌, ap₂, add-zero, add_assoc, pow-suc, arith, pow_mono}
 use Rattle.std.proofs.lemmas.Bool.{cond_both}
 use Rattle.parity.specs.Stripe.{gaps, missing}
 use Rattle.parity.proofs.Gaps.{gaps_none, gaps_more, missing_more}

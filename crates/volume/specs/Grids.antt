@@ -7,10 +7,11 @@ use Rattle.parity.specs.Stripe.{missing}
 use Rattle.parity.specs.Ways.{recovered}
 use Rattle.contents.specs.declared.Loss.{Loss}
 use Rattle.contents.specs.Columns.{Frontiers, columns, loss_of}
+use Rattle.contents.specs.Records.{Records}
 use Rattle.contents.specs.Shapes.{Shape}
 use Rattle.volume.specs.declared.grid.Grid.{Grid}
 use Rattle.volume.specs.Sizes.{shape_at}
-use Rattle.volume.specs.Slots.{members_of, frontier_of}
+use Rattle.volume.specs.Slots.{members_of, frontier_of, records_of}
 
 -- the shape, by the records K and J of the code and the layout
 abbrev pub grid_shape : {C L : Type 0} → (K : Code C) → Layout L → Grid C L K → Shape
@@ -22,6 +23,9 @@ width x = x.size.slots - 2
 
 abbrev pub grid_frontiers : {C L : Type 0} {K : Code C} → Grid C L K → Frontiers
 grid_frontiers x = frontier_of x.table.rows
+
+abbrev pub grid_records : {C L : Type 0} {K : Code C} → Grid C L K → Records
+grid_records x = records_of x.table.rows
 
 -- the columns of stripe s
 abbrev pub columns_on : {C L : Type 0} {K : Code C} → Layout L → Grid C L K → Slots → ℕ → ℕ → Option (List ℕ)

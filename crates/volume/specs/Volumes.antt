@@ -6,8 +6,8 @@ use Rattle.layout.specs.declared.Layout.{Ghosts as Layout}
 use Rattle.contents.specs.Columns.{Members, Frontiers}
 use Rattle.contents.specs.Shapes.{Shape}
 use Rattle.volume.specs.declared.volume.Volume.{Volume}
-use Rattle.volume.specs.Grids.{grid_shape, grid_frontiers}
-use Rattle.volume.specs.Slots.{members_in, records_of}
+use Rattle.volume.specs.Grids.{grid_shape, grid_frontiers, grid_records}
+use Rattle.volume.specs.Slots.{members_in}
 use Rattle.contents.specs.Records.{Records}
 use Rattle.contents.specs.Refusals.{Told, told}
 use Rattle.contents.specs.declared.Refusal.{Refusal}
@@ -24,7 +24,7 @@ abbrev pub frontiers : {C L B : Type 0} {K : Code C} → Volume C L B K → Fron
 frontiers v = grid_frontiers v.grid
 
 abbrev pub records : {C L B : Type 0} {K : Code C} → Volume C L B K → Records
-records v = records_of v.grid.table.rows
+records v = grid_records v.grid
 
 -- what no call on a volume changes: its code, its layout and its size
 pub record PartsKept {C L B : Type 0} {K : Code C} (v w : Volume C L B K) : Type 0 where

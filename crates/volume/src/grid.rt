@@ -6,6 +6,7 @@ use crate::slots::SlotTable;
 use code::Code;
 
 mod columns;
+mod records;
 mod recoveries;
 
 // A volume without its bank: the code, the layout, the size, which fits the code, and the slots' records.

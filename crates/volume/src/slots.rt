@@ -1,8 +1,8 @@
 // The slots' records: which is being rebuilt, and how far each is rebuilt.
-ghost use Rattle.std.specs.Prelude.{◌≡◌, ◌<◌, ◌≤◌, not, replicate, nat_lt};
+ghost use Rattle.std.specs.Prelude.{◌≡◌, ◌<◌, not, replicate, nat_lt};
 ghost use Rattle.contents.specs.Records.{idle_at, with_record, slot_after, slot_answer};
 ghost use Rattle.contents.specs.Refusals.{outcome};
-ghost use Rattle.volume.specs.Slots.{frontier_of, records_of, open_frontier};
+ghost use Rattle.volume.specs.Slots.{frontier_of, records_of};
 
 use crate::size::MOST_SLOTS;
 use contents::{Refusal, SlotEvent, SlotRecord, SlotState};
@@ -38,21 +38,6 @@ impl SlotTable {
         ensures value { result ≡ not (nat_lt (frontier_of self.now.rows slot) stripes) }
     {
         stripes == 0 || self.has(slot, stripes - 1)
-    }
-
-    // The frontier of a slot that is open, of the first `n` slots; none where it is idle or there is no such slot.
-    pub fn open_frontier(&self, n: usize, slot: usize) -> Option<usize>
-        requires few { n ≤ 18 }
-        ensures value { result ≡ open_frontier self.now.rows n slot }
-    {
-        if slot >= n {
-            return None;
-        }
-        let row = self.rows[slot];
-        match row.state {
-            SlotState::Idle => None,
-            SlotState::Open => Some(row.frontier),
-        }
     }
 
     // The record of a slot meets an event, and every other record is kept.

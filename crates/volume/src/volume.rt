@@ -8,7 +8,7 @@ ghost use Rattle.volume.specs.Volumes.{shape, members, frontiers, Kept};
 ghost use Rattle.volume.specs.Turns.{in_turn};
 
 use crate::grid::Grid;
-use crate::walks::{tick_slots, weak_slots};
+use crate::walks::tick_slots;
 use bank::Bank;
 use code::Code;
 use layout::Layout;
@@ -41,8 +41,7 @@ impl<C: Code, L: Layout, B: Bank> Volume<C, L, B> {
     pub fn margin(&self) -> usize
         ensures value { result ≡ margin (shape C.Code L.Layout self.now) (members B.Bank self.now) (frontiers self.now) }
     {
-        let size = self.grid.size;
-        2usize.saturating_sub(weak_slots(&self.grid.table, &self.bank, size.slots, size.stripes))
+        2usize.saturating_sub(self.grid.weak_slots(&self.bank))
     }
 
     // How many slots there are.

@@ -1,15 +1,12 @@
 // Walks over all slots of a bank, in slot order.
-ghost use Rattle.std.specs.Prelude.{◌≡◌, ℕ, ◌≤◌, ◌||◌, if◌then◌else◌, nat_lt};
+ghost use Rattle.std.specs.Prelude.{◌≡◌};
 ghost use Rattle.code.specs.Blocks.{zeros};
 ghost use Rattle.member.specs.Changes.{Ticked, Written};
-ghost use Rattle.contents.specs.Columns.{count};
 ghost use Rattle.contents.specs.Changes.{Steps, Moved};
 ghost use Rattle.contents.specs.Shapes.{smallest};
-ghost use Rattle.volume.specs.Slots.{frontier_of, members_in};
+ghost use Rattle.volume.specs.Slots.{members_in};
 ghost use Rattle.volume.specs.Turns.{in_turn};
 
-use crate::members::is_gone;
-use crate::slots::SlotTable;
 use bank::Bank;
 use code::BLOCK;
 use member::MOST_BLOCKS;
@@ -59,20 +56,4 @@ pub fn zero_stripes<B: Bank>(bank: &mut B, n: usize, stripes: usize)
     for s in 0..stripes {
         zero_stripe(bank, n, s);
     }
-}
-
-// Whether a slot's member is gone or does not have all stripes, of which there is at least one.
-fn is_weak<B: Bank>(table: &SlotTable, bank: &B, stripes: usize, slot: usize) -> bool
-    ensures value { result ≡ (members_in B.Bank bank.now slot).gone || nat_lt (frontier_of table.now.rows slot) stripes }
-{
-    is_gone(bank, slot) || !table.has_all(slot, stripes)
-}
-
-// How many of the first `n` slots are gone or do not have all stripes.
-pub fn weak_slots<B: Bank>(table: &SlotTable, bank: &B, n: usize, stripes: usize) -> usize
-    ensures value { result ≡ count (λ i. (members_in B.Bank bank.now i).gone || nat_lt (frontier_of table.now.rows i) stripes) n }
-{
-    (0..n)
-        .filter(|&slot| is_weak(table, bank, stripes, slot))
-        .count()
 }

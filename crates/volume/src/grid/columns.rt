@@ -1,14 +1,15 @@
 // The columns of one stripe: which are missing, and what the members hold of them.
-ghost use Rattle.std.specs.Prelude.{◌≡◌, ◌*◌, length, is_some};
+ghost use Rattle.std.specs.Prelude.{◌≡◌, ◌*◌, ◌||◌, length, is_some, nat_lt};
 ghost use Rattle.code.specs.Blocks.{block_size};
 ghost use Rattle.parity.specs.Ways.{or_else};
+ghost use Rattle.contents.specs.Columns.{status, count};
 ghost use Rattle.contents.specs.Changes.{Moved, Put, due};
 ghost use Rattle.volume.specs.Grids.{width, grid_frontiers, columns_on, loss_on};
 ghost use Rattle.volume.specs.Masks.{Room, with_status};
 ghost use Rattle.volume.specs.Slots.{slots_in, members_in, Surveyed};
 
 use crate::grid::Grid;
-use crate::members::status_of;
+use crate::members::{is_gone, present_status};
 use crate::survey::Survey;
 use bank::Bank;
 use code::Code;
@@ -39,6 +40,35 @@ fn with_status(loss: Loss, how: Status, bit: u32) -> Loss
 }
 
 impl<C: Code, L> Grid<C, L> {
+    // How the column of stripe `s` on a slot stands.
+    pub fn status<B: Bank>(&self, bank: &B, s: usize, slot: usize) -> Status
+        ensures value { result ≡ status (members_in B.Bank bank.now) (grid_frontiers self.now) s slot }
+    {
+        if bank.look(slot, s).is_ok() {
+            return present_status(self.table.has(slot, s), true);
+        }
+        if is_gone(bank, slot) {
+            return Status::Gone;
+        }
+        present_status(self.table.has(slot, s), false)
+    }
+
+    // Whether a slot's member is gone or does not have all stripes, of which there is at least one.
+    fn is_weak<B: Bank>(&self, bank: &B, slot: usize) -> bool
+        ensures value { result ≡ (members_in B.Bank bank.now slot).gone || nat_lt (grid_frontiers self.now slot) self.now.size.stripes }
+    {
+        is_gone(bank, slot) || !self.table.has_all(slot, self.size.stripes)
+    }
+
+    // How many slots are weak.
+    pub fn weak_slots<B: Bank>(&self, bank: &B) -> usize
+        ensures value { result ≡ count (λ i. (members_in B.Bank bank.now i).gone || nat_lt (grid_frontiers self.now i) self.now.size.stripes) self.now.size.slots }
+    {
+        (0..self.size.slots)
+            .filter(|&slot| self.is_weak(bank, slot))
+            .count()
+    }
+
     // How many data columns a stripe has.
     pub fn width(&self) -> usize
         ensures value { result ≡ width self.now }
@@ -54,8 +84,8 @@ impl<C: Code, L> Grid<C, L> {
     }
 
     // What is lost of stripe `s`, slot by slot; asked only where a call is refused for it. Out of line it makes a read half as slow again,
-    // whose answer then goes through memory.
-    #[inline(always)]
+    // since the read's answer then goes through memory.
+    #[inline]
     pub fn loss<B: Bank>(&self, bank: &B, s: usize) -> Loss
         ensures value { result ≡ loss_on self.now (slots_in B.Bank bank.now) s }
     {
@@ -66,7 +96,7 @@ impl<C: Code, L> Grid<C, L> {
             unreadable: 0,
         };
         for slot in 0..self.size.slots {
-            loss = with_status(loss, status_of(&self.table, bank, s, slot), 1 << slot);
+            loss = with_status(loss, self.status(bank, s, slot), 1 << slot);
         }
         loss
     }
@@ -78,7 +108,7 @@ impl<C: Code, L: Layout> Grid<C, L> {
         ensures value { result ≡ is_some (columns_on L.Layout self.now (slots_in B.Bank bank.now) s t) }
     {
         let slot = self.layout.slot_of(self.size.slots, s, t);
-        status_of(&self.table, bank, s, slot) == Status::Current
+        self.status(bank, s, slot) == Status::Current
     }
 
     // What is missing of stripe `s`.

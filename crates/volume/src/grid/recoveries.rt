@@ -1,7 +1,7 @@
 // Recovery of a missing column from the current ones of its stripe.
-ghost use Rattle.std.specs.Prelude.{◌≡◌, ◌+◌, ◌<◌, false, length, is_some, if◌then◌else◌};
-ghost use Rattle.code.specs.Blocks.{◌⊕◌, block_size, zeros};
-ghost use Rattle.parity.specs.Stripe.{plain_part, mixed_part, if_present, plain_sum, mixed_sum};
+ghost use Rattle.std.specs.Prelude.{◌≡◌, ◌+◌, false, length, is_some, if◌then◌else◌};
+ghost use Rattle.code.specs.Blocks.{block_size, zeros};
+ghost use Rattle.parity.specs.Stripe.{plain_sum, mixed_sum};
 ghost use Rattle.parity.specs.Ways.{takes_plain, takes_mixed};
 ghost use Rattle.volume.specs.Grids.{width, columns_on, recovered_on};
 ghost use Rattle.volume.specs.Slots.{slots_in, Surveyed};

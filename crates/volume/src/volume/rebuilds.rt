@@ -1,5 +1,5 @@
 // Replacement of a slot's member, and the rebuild of what it should hold, stripe by stripe, while the volume is in use.
-ghost use Rattle.std.specs.Prelude.{◌≡◌, ◌<◌, ◌≤◌, true, false, is_ok, if◌then◌else◌, None, Err};
+ghost use Rattle.std.specs.Prelude.{◌≡◌, ◌<◌, ◌≤◌, true, is_ok, if◌then◌else◌};
 ghost use Rattle.contents.specs.declared.SlotEvent.TheVariants.{Opened, Closed};
 ghost use Rattle.contents.specs.Refusals.{outcome};
 ghost use Rattle.contents.specs.Records.{frontiers};
@@ -59,13 +59,7 @@ impl<C: Code, L: Layout, B: Bank> Volume<C, L, B> {
         ensures kept { PartsKept self.old self.new }
         ensures right { FitsOver (shape C.Code L.Layout self.old) (members B.Bank self.old) (records self.old) (members B.Bank self.new) (records self.new) × CountsKept (members B.Bank self.old) (members B.Bank self.new) }
     {
-        let size = self.grid.size;
-        if slot >= size.slots {
-            return Err(Refusal::NoSuch);
-        }
-        self.grid
-            .table
-            .change(slot, SlotEvent::Replaced, size.stripes)?;
+        self.grid.meet(slot, SlotEvent::Replaced, Refusal::NoSuch)?;
         let _ = self.bank.fresh(slot);
         Ok(())
     }
@@ -78,13 +72,7 @@ impl<C: Code, L: Layout, B: Bank> Volume<C, L, B> {
         ensures kept { PartsKept self.old self.new }
         ensures right { FitsOver (shape C.Code L.Layout self.old) (members B.Bank self.old) (records self.old) (members B.Bank self.old) (records self.new) }
     {
-        let size = self.grid.size;
-        if slot >= size.slots {
-            return Err(Refusal::NoSuch);
-        }
-        self.grid
-            .table
-            .change(slot, SlotEvent::Opened, size.stripes)?;
+        self.grid.meet(slot, SlotEvent::Opened, Refusal::NoSuch)?;
         Ok(Order { slot })
     }
 
@@ -97,18 +85,18 @@ impl<C: Code, L: Layout, B: Bank> Volume<C, L, B> {
         ensures right { Roomy (shape C.Code L.Layout self.old) (members B.Bank self.old) → FitsOver (shape C.Code L.Layout self.old) (members B.Bank self.old) (records self.old) (members B.Bank self.new) (records self.new) × CountsKept (members B.Bank self.old) (members B.Bank self.new) }
         ensures loss { open_here (shape C.Code L.Layout self.old) (records self.old) order.now.slot ≡ true → ((records self.old) order.now.slot).frontier < (shape C.Code L.Layout self.old).stripes → TellsLoss (shape C.Code L.Layout self.old) (members B.Bank self.old) (frontiers (records self.old)) ((records self.old) order.now.slot).frontier (step_outcome (shape C.Code L.Layout self.old) (members B.Bank self.old) (records self.old) order.now.slot) }
     {
-        let size = self.grid.size;
-        let Some(stripe) = self.grid.table.open_frontier(size.slots, order.slot) else {
+        let stripes = self.grid.size.stripes;
+        let Some(stripe) = self.grid.open_frontier(order.slot) else {
             return Err(Refusal::NotOpen);
         };
-        if stripe >= size.stripes {
+        if stripe >= stripes {
             return Err(Refusal::Whole);
         }
         self.grid
             .rebuild_column(&mut self.bank, order.slot, stripe)?;
         self.grid
             .table
-            .change(order.slot, SlotEvent::Stepped, size.stripes)
+            .change(order.slot, SlotEvent::Stepped, stripes)
     }
 
     // Ends the rebuild of the order's slot, and answers how far it came. The order is used up, whatever is answered.
@@ -119,13 +107,7 @@ impl<C: Code, L: Layout, B: Bank> Volume<C, L, B> {
         ensures kept { PartsKept self.old self.new }
         ensures right { FitsOver (shape C.Code L.Layout self.old) (members B.Bank self.old) (records self.old) (members B.Bank self.old) (records self.new) }
     {
-        let size = self.grid.size;
         let Order { slot } = order;
-        if slot >= size.slots {
-            return Err(Refusal::NotOpen);
-        }
-        self.grid
-            .table
-            .change(slot, SlotEvent::Closed, size.stripes)
+        self.grid.meet(slot, SlotEvent::Closed, Refusal::NotOpen)
     }
 }

@@ -13,7 +13,6 @@ ghost use Rattle.contents.specs.Theorems.{Scrubbing, Losing};
 ghost use Rattle.volume.specs.Volumes.{shape, members, frontiers, Kept};
 
 use crate::grid::Grid;
-use crate::members::status_of;
 use crate::survey::{Survey, Tally};
 use crate::volume::Volume;
 use bank::Bank;
@@ -69,7 +68,7 @@ impl<C: Code, L: Layout> Grid<C, L> {
             };
         }
         let slot = i - 1;
-        let how = status_of(&self.table, bank, s, slot);
+        let how = self.status(bank, s, slot);
         if how != Status::Unreadable {
             return with_standing(self.scrub_slots(bank, s, slot, survey), how);
         }

@@ -1,4 +1,4 @@
-use Rattle.std.proofs.Common.{◌≡◌, ◌≤◌, sym, ◌∙◌, arith}
+use Rattle.std.proofs.Common.{◌≤◌, sym, arith}
 use Rattle.member.specs.Meaning.{most_blocks}
 use Rattle.contents.proofs.Forming.{smallest_few}
 use Rattle.volume.specs.Slots.{members_in}

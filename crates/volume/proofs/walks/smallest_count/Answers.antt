@@ -1,4 +1,4 @@
-use Rattle.std.proofs.Common.{ℕ, min, refl, ◌∙◌, rules, arith}
+use Rattle.std.proofs.Common.{min, refl, ◌∙◌, rules, arith}
 use Rattle.std.proofs.lemmas.Iterator.{YieldsList-from_range, YieldsList-from_map}
 use Rattle.std.proofs.lemmas.Iterator.Consumers.{YieldsList-at, fold_from_yields_List}
 use Rattle.member.specs.Meaning.{most_blocks}

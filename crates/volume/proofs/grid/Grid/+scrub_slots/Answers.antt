@@ -1,4 +1,4 @@
-use Rattle.std.proofs.Common.{◌≡◌, ℕ, ◌+◌, ◌-◌, ◌<◌, ◌≤◌, true, false, List, length, sym, refl, ap, ◌∙◌, subst, arith}
+use Rattle.std.proofs.Common.{◌≡◌, ℕ, ◌+◌, ◌-◌, ◌<◌, ◌≤◌, true, false, List, length, refl, ap, ◌∙◌, subst, arith}
 use Rattle.parity.specs.Ways.{recovered}
 use Rattle.member.specs.Changes.{Written}
 use Rattle.bank.specs.Slots.{Slots}
@@ -33,10 +33,10 @@ returns-then-ne g t c =
     let s = c.args.s in
     let j = c.args.i - 1 in
     let e : c.args.i ≡ j + 1 = omega (arith, c.if-i-eq0.false) in
-    let u : is_unreadable (status M F s j) ≡ false = unreadable_is c.status_of-how.result _ true c.if-ne.ensures c.status_of-how.ensures.value in
+    let u : is_unreadable (status M F s j) ≡ false = unreadable_is c.status-how.result _ true c.if-ne.ensures c.status-how.ensures.value in
     record {
       steps = scrub_skip M F s (λ (x : ℕ). recovered (g.C.Code.coding c.args.self.now.code) (width c.args.self.now) (columns_on g.L.Layout c.args.self.now ms s) (g.L.Layout.column c.args.self.now.layout c.args.self.now.size.slots s x)) c.args.i j N e c.scrub_slots.ensures.steps u;
-      tally = tally_skip M F s c.args.i j c.status_of-how.result c.scrub_slots.result c.with_standing.result e c.status_of-how.ensures.value u c.scrub_slots.ensures.tally c.with_standing.ensures.value;
+      tally = tally_skip M F s c.args.i j c.status-how.result c.scrub_slots.result c.with_standing.result e c.status-how.ensures.value u c.scrub_slots.ensures.tally c.with_standing.ensures.value;
     }
 
 pub rebuild-requires : goal.rebuild-requires
@@ -47,7 +47,7 @@ rebuild-requires g t c =
     let n = c.args.self.now.size.slots in
     let j = c.args.i - 1 in
     let l : j < n = omega (arith, c.if-i-eq0.false, c.requires.within) in
-    let u : is_unreadable (status M F s j) ≡ true = unreadable_is c.status_of-how.result _ false c.if-ne.ensures c.status_of-how.ensures.value in
+    let u : is_unreadable (status M F s j) ≡ true = unreadable_is c.status-how.result _ false c.if-ne.ensures c.status-how.ensures.value in
     record {
       sized = refl;
       surveyed = c.requires.surveyed;
@@ -75,7 +75,7 @@ returns g t c =
     let n = c.args.self.now.size.slots in
     let j = c.args.i - 1 in
     let e : c.args.i ≡ j + 1 = omega (arith, c.if-i-eq0.false) in
-    let u : is_unreadable (status M F s j) ≡ true = unreadable_is c.status_of-how.result _ false c.if-ne.ensures c.status_of-how.ensures.value in
+    let u : is_unreadable (status M F s j) ≡ true = unreadable_is c.status-how.result _ false c.if-ne.ensures c.status-how.ensures.value in
     let col = λ (xs : Slots) (x : ℕ). recovered C (n - 2) (columns_on g.L.Layout c.args.self.now xs s) (g.L.Layout.column c.args.self.now.layout n s x) in
     let w = subst (λ (xs : Slots). Steps j (mends (members_of xs) F s (col xs)) (members_of xs) N) c.rebuild.ensures.same c.scrub_slots-tally.ensures.steps in
     let t0 = subst (λ (xs : Slots). c.scrub_slots-tally.result ≡ tally_of (members_of xs) F s j) c.rebuild.ensures.same c.scrub_slots-tally.ensures.tally in

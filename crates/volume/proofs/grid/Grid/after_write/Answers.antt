@@ -1,4 +1,4 @@
-use Rattle.std.proofs.Common.{◌≡◌, ◌+◌, ◌-◌, ◌<◌, ◌≤◌, Err, ap, ◌∙◌, arith}
+use Rattle.std.proofs.Common.{◌≡◌, ◌+◌, ◌<◌, ◌≤◌, Err, ap, ◌∙◌, arith}
 use Rattle.parity.specs.Stripe.{missing}
 use Rattle.contents.specs.declared.Loss.{Loss}
 use Rattle.contents.specs.Refusals.{with_loss}

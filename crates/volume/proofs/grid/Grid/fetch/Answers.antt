@@ -1,4 +1,4 @@
-use Rattle.std.proofs.Common.{◌-◌, is_some, sym, ap, ◌∙◌, subst}
+use Rattle.std.proofs.Common.{is_some, sym, ap, ◌∙◌, subst}
 use Rattle.parity.specs.Ways.{recovered}
 use Rattle.bank.specs.Slots.{Slots}
 use Rattle.volume.proofs.Gathering.{loaded}

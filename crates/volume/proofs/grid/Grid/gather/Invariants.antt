@@ -1,4 +1,4 @@
-use Rattle.std.proofs.Common.{◌≡◌, ◌-◌, cond, length}
+use Rattle.std.proofs.Common.{◌≡◌, cond, length}
 use Rattle.code.specs.Blocks.{zeros, block_size}
 use Rattle.parity.specs.Stripe.{plain_sum, mixed_sum}
 use Rattle.parity.specs.Ways.{takes_plain, takes_mixed}

@@ -11,6 +11,6 @@ returns g c =
     let M = members_in g.B.Bank c.args.bank.now in
     let F = grid_frontiers c.args.self.now in
     record {
-      value = c.eq.ensures ∙ current_eq c.status_of.result ∙ ap is_current c.status_of.ensures.value ∙ sym (current_is M F c.args.s c.slot_of-slot.result)
+      value = c.eq.ensures ∙ current_eq c.status.result ∙ ap is_current c.status.ensures.value ∙ sym (current_is M F c.args.s c.slot_of-slot.result)
           ∙ ap (λ (i : ℕ). is_some (held M F c.args.s i)) c.slot_of-slot.ensures.value;
     }

@@ -1,4 +1,4 @@
-use Rattle.std.proofs.Common.{◌<◌, refl, arith}
+use Rattle.std.proofs.Common.{◌<◌, arith}
 use Rattle.contents.proofs.Masks.{loss_none}
 use Rattle.volume.proofs.Surveying.{loss_room, loss_step, bit_is}
 use Rattle.volume.proofs.grid.Grid.loss.Goals as goal
@@ -14,4 +14,4 @@ with_status-loss-requires g c =
 pub loop-slot-preserved : goal.loop-slot-preserved
 loop-slot-preserved g c =
     let h : c.loop-slot.slot < 18 = omega (arith, c.args.self.now.fitting.most) in
-    loss_step _ _ _ _ _ _ _ _ c.status_of.ensures.value (bit_is c.loop-slot.slot h) c.loop-slot.invariant c.with_status-loss.ensures.value
+    loss_step _ _ _ _ _ _ _ _ c.status.ensures.value (bit_is c.loop-slot.slot h) c.loop-slot.invariant c.with_status-loss.ensures.value

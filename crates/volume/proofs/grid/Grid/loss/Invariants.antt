@@ -1,4 +1,4 @@
-use Rattle.std.proofs.Common.{◌≡◌, ◌^◌}
+use Rattle.std.proofs.Common.{◌≡◌}
 use Rattle.contents.specs.Columns.{loss_of}
 use Rattle.volume.specs.Grids.{grid_frontiers}
 use Rattle.volume.specs.Slots.{members_in}

@@ -1,4 +1,4 @@
-use Rattle.std.proofs.Common.{◌≡◌, ℕ, ◌+◌, ◌-◌, List, is_ok, sym, ap, ◌∙◌, subst, ap₂, arith}
+use Rattle.std.proofs.Common.{◌≡◌, ℕ, ◌+◌, List, is_ok, sym, ap, ◌∙◌, subst, ap₂, arith}
 use Rattle.code.specs.Blocks.{◌⊕◌}
 use Rattle.parity.specs.Ways.{recovered}
 use Rattle.bank.specs.Slots.{Slots}

@@ -1,4 +1,4 @@
-use Rattle.std.proofs.Common.{◌≡◌, ◌+◌, ◌-◌, ◌<◌, ◌≤◌, is_some, Err, sym, ap, ◌∙◌, arith}
+use Rattle.std.proofs.Common.{◌≡◌, ◌+◌, ◌<◌, ◌≤◌, is_some, Err, sym, ap, ◌∙◌, arith}
 use Rattle.parity.specs.Stripe.{missing}
 use Rattle.parity.specs.Ways.{recovered}
 use Rattle.bank.specs.Slots.{Slots}

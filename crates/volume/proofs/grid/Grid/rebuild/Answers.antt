@@ -1,4 +1,4 @@
-use Rattle.std.proofs.Common.{◌-◌, refl, ◌∙◌}
+use Rattle.std.proofs.Common.{refl, ◌∙◌}
 use Rattle.code.specs.Blocks.{zeros}
 use Rattle.volume.proofs.Gathering.{rebuilt}
 use Rattle.volume.specs.Grids.{width, columns_on}

@@ -1,6 +1,5 @@
-use Rattle.std.proofs.Common.{◌≡◌, ◌+◌, ◌-◌, ◌<◌, ◌≤◌, refl, ap, ◌∙◌, arith}
+use Rattle.std.proofs.Common.{◌≡◌, ◌<◌, refl, ap, ◌∙◌, arith}
 use Rattle.std.proofs.lemmas.Result.{err_from_is_err_and}
-use Rattle.parity.specs.Stripe.{missing}
 use Rattle.contents.specs.Shapes.{missing_at, recovered_at}
 use Rattle.volume.proofs.Rebuilding.{behind_missing, column_lossy, column_written, lifted_ok, lifted_err}
 use Rattle.volume.specs.Grids.{grid_shape, grid_frontiers}

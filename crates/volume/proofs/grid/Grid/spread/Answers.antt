@@ -1,6 +1,6 @@
-use Rattle.std.proofs.Common.{◌≡◌, ℕ, ◌+◌, ◌-◌, subst, arith}
+use Rattle.std.proofs.Common.{ℕ, ◌+◌, subst}
 use Rattle.contents.specs.Changes.{Moved, Put, due}
-use Rattle.volume.specs.Grids.{width, grid_frontiers}
+use Rattle.volume.specs.Grids.{grid_frontiers}
 use Rattle.volume.specs.Slots.{members_in}
 use Rattle.volume.proofs.grid.Grid.spread.Goals as goal
 

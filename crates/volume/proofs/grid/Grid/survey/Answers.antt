@@ -1,6 +1,6 @@
-use Rattle.std.proofs.Common.{◌≡◌, ℕ, ◌-◌, ◌∙◌, subst, arith}
+use Rattle.std.proofs.Common.{◌≡◌, ℕ, ◌∙◌, subst, arith}
 use Rattle.volume.proofs.Surveying.{Told, told_none, told_more, told_all, at_most_one, absent_is}
-use Rattle.volume.specs.Grids.{width, columns_on}
+use Rattle.volume.specs.Grids.{columns_on}
 use Rattle.volume.specs.Slots.{slots_in}
 use Rattle.volume.proofs.grid.Grid.survey.Goals as goal
 

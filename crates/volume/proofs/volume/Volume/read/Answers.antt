@@ -1,9 +1,8 @@
-use Rattle.std.proofs.Common.{ℕ, ◌-◌, ◌*◌, ◌<◌, ◌≤◌, Err, refl, subst, arith}
-use Rattle.contents.specs.Refusals.{plain, outcome}
+use Rattle.std.proofs.Common.{ℕ, ◌-◌, ◌*◌, ◌<◌, ◌≤◌, refl, subst, arith}
 use Rattle.contents.proofs.Reading.{reads}
 use Rattle.contents.proofs.Losing.{losses}
 use Rattle.volume.specs.Volumes.{shape, members, frontiers}
-use Rattle.volume.proofs.Answering.{grid_valid, ReadDone, read_short, read_beyond, read_within, factor}
+use Rattle.volume.proofs.Answering.{grid_valid, read_short, read_beyond, read_within, factor}
 use Rattle.volume.proofs.volume.Volume.read.Goals as goal
 
 pub returns-then-buffer-ne-BLOCK : goal.returns-then-buffer-ne-BLOCK

@@ -1,40 +1,38 @@
-use Rattle.std.proofs.Common.{ℕ, is_ok, Err, Result, sym, refl, ap, ◌∙◌, subst, arith}
+use Rattle.std.proofs.Common.{ℕ, is_ok, Err, Result, sym, refl, ap, ◌∙◌}
 use Rattle.std.proofs.lemmas.Result.{err_from_is_err_and}
 use Rattle.std.proofs.lemmas.Bool.{true≢false, false≢true, cond-false}
 use Rattle.contents.specs.declared.Refusal.{Refusal}
-use Rattle.contents.specs.declared.SlotEvent.TheVariants.{Replaced}
-use Rattle.contents.specs.Refusals.{Told, plain, outcome, answering}
+use Rattle.contents.specs.Refusals.{Told, outcome, answering}
 use Rattle.contents.specs.Rebuilds.{ReplaceChanges}
 use Rattle.contents.proofs.Rebuilding.{replaces}
-use Rattle.volume.specs.Slots.{members_in, records_of}
+use Rattle.volume.specs.Slots.{members_in}
+use Rattle.volume.specs.Grids.{grid_records}
 use Rattle.volume.specs.Volumes.{shape, members, records}
 use Rattle.volume.proofs.Answering.{grid_valid}
-use Rattle.volume.proofs.Rebuilding.{EventDone, event_done, answering_ok, answering_err, renewed_moved}
+use Rattle.volume.proofs.Rebuilding.{answering_ok, answering_err, renewed_moved}
 use Rattle.volume.proofs.volume.Volume.replace.Goals as goal
 
-pub returns-in_err-change : goal.returns-in_err-change
-returns-in_err-change g c =
+pub returns-in_err-meet : goal.returns-in_err-meet
+returns-in_err-meet g c =
     let v = c.args.self.now in
     let M = members g.B.Bank v in
     let R = records v in
-    let z = v.grid.size in
     let V = shape g.C.Code g.L.Layout v in
     let valid = grid_valid g.C.Code g.L.Layout g.met.C.Code.lawful g.met.L.Layout.lawful v.grid in
     let i = c.args.slot in
-    let Q = records_of c.change.new.self.rows in
+    let Q = grid_records c.meet.new.self in
     let p = err_from_is_err_and c.from_residual.result c.from_residual.ensures.1 in
-    let d = event_done V R i Replaced (plain 2) Q (outcome c.change.result) (omega arith) c.change.ensures.records c.change.ensures.answered in
-    let a = sym (ap outcome c.in_err-change.was) ∙ d.answered in
+    let a = sym (ap outcome c.in_err-meet.was) ∙ c.meet.ensures.answered in
     let w : ReplaceChanges V M R i M Q = record {
       taken = λ t. absurd (false≢true (ap (λ (r : Result ℕ Told). is_ok (answering tt r)) a ∙ t));
       refused = λ _. refl;
-      records = d.records;
+      records = c.meet.ensures.records;
     } in
     record {
       answered = ap outcome p.1 ∙ ap (λ (x : Refusal). outcome (Err x)) p.2 ∙ answering_err tt _ _ a;
       exact = sym (cond-false _ _ _ (ap is_ok p.1));
       changes = w;
-      kept = record { code = refl; layout = refl; size = refl };
+      kept = record { code = c.meet.ensures.code; layout = c.meet.ensures.layout; size = c.meet.ensures.size };
       right = replaces V valid M R i M Q w;
     }
 
@@ -43,23 +41,21 @@ returns g c =
     let v = c.args.self.now in
     let M = members g.B.Bank v in
     let R = records v in
-    let z = v.grid.size in
     let V = shape g.C.Code g.L.Layout v in
     let valid = grid_valid g.C.Code g.L.Layout g.met.C.Code.lawful g.met.L.Layout.lawful v.grid in
     let i = c.args.slot in
-    let Q = records_of c.change.new.self.rows in
-    let d = event_done V R i Replaced (plain 2) Q (outcome c.change.result) (omega arith) c.change.ensures.records c.change.ensures.answered in
+    let Q = grid_records c.meet.new.self in
     let N = members_in g.B.Bank c.fresh.new.self in
-    let a = sym (ap outcome c.in_ok-change.was) ∙ d.answered in
+    let a = sym (ap outcome c.in_ok-meet.was) ∙ c.meet.ensures.answered in
     let w : ReplaceChanges V M R i N Q = record {
       taken = λ _. renewed_moved _ _ i c.fresh.ensures.after;
       refused = λ t. absurd (true≢false (ap (λ (r : Result ℕ Told). is_ok (answering tt r)) a ∙ t));
-      records = d.records;
+      records = c.meet.ensures.records;
     } in
     record {
       answered = answering_ok tt _ _ a;
       exact = c.fresh.ensures.exact;
       changes = w;
-      kept = record { code = refl; layout = refl; size = refl };
+      kept = record { code = c.meet.ensures.code; layout = c.meet.ensures.layout; size = c.meet.ensures.size };
       right = replaces V valid M R i N Q w;
     }

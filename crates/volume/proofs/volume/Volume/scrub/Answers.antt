@@ -1,10 +1,9 @@
-use Rattle.std.proofs.Common.{Err, refl, subst}
-use Rattle.contents.specs.Refusals.{plain, outcome}
+use Rattle.std.proofs.Common.{refl}
 use Rattle.contents.proofs.Keeping.{scrubs}
 use Rattle.contents.proofs.Losing.{losses}
 use Rattle.volume.specs.Slots.{members_in}
 use Rattle.volume.specs.Volumes.{shape, members, frontiers}
-use Rattle.volume.proofs.Answering.{grid_valid, ScrubDone, scrub_beyond, scrub_within}
+use Rattle.volume.proofs.Answering.{grid_valid, scrub_beyond, scrub_within}
 use Rattle.volume.proofs.volume.Volume.scrub.Goals as goal
 
 pub returns-then-stripe-self : goal.returns-then-stripe-self

@@ -1,11 +1,10 @@
-use Rattle.std.proofs.Common.{ℕ, ◌-◌, ◌*◌, ◌<◌, ◌≤◌, Err, refl, subst, arith}
-use Rattle.contents.specs.Refusals.{plain, outcome}
+use Rattle.std.proofs.Common.{ℕ, ◌-◌, ◌*◌, ◌<◌, ◌≤◌, refl, subst, arith}
 use Rattle.contents.proofs.Writing.{writes}
 use Rattle.contents.proofs.Fitting.{stripe_below, column_below}
 use Rattle.contents.proofs.Losing.{losses}
 use Rattle.volume.specs.Slots.{members_in}
 use Rattle.volume.specs.Volumes.{shape, members, frontiers}
-use Rattle.volume.proofs.Answering.{grid_valid, WriteDone, write_short, write_beyond, write_within, factor}
+use Rattle.volume.proofs.Answering.{grid_valid, write_short, write_beyond, write_within, factor}
 use Rattle.volume.proofs.volume.Volume.write.Goals as goal
 
 pub returns-then-bytes-ne-BLOCK : goal.returns-then-bytes-ne-BLOCK
