@@ -1,5 +1,5 @@
 -- A call that was made is one event more of the volume's history.
-use Rattle.std.proofs.Common.{◌≡◌, ◌≢◌, ℕ, Bool, true, false, cond, List, [], ◌∷◌, length, is_ok, IfOk, Ok, Err, Result, sym, refl, ap, ◌∙◌, subst, arith}
+use Rattle.std.proofs.Common.{◌≡◌, ◌≢◌, ℕ, Bool, true, false, cond, List, length, is_ok, IfOk, Ok, Err, Result, sym, refl, ap, ◌∙◌, subst, arith}
 use Rattle.std.proofs.lemmas.Bool.{cond-false, ne_eqb, false≢true}
 use Rattle.code.specs.Blocks.{Bytes}
 use Rattle.code.specs.declared.Code.{Ghosts as Code}
@@ -15,7 +15,7 @@ use Rattle.volume.specs.declared.volume.Volume.{Volume}
 use Rattle.volume.specs.declared.volume.rebuilds.Order.{Order}
 use Rattle.volume.specs.Slots.{records_of}
 use Rattle.volume.specs.Volumes.{records, ordered}
-use Rattle.runs.specs.Told.{event, event_with, GoesOn}
+use Rattle.runs.specs.Told.{event, GoesOn}
 
 -- ---- a table that stays
 pub records_same : {C L B : Type 0} {K : Code C} (v w : Volume C L B K) → w.grid.table ≡ v.grid.table → records w ≡ records v
@@ -42,10 +42,6 @@ given a v h b x e = let d : v ≡ x = cc in subst (λ (y : List ℕ). Bytes (len
 
 pub goes : (V : Shape) (σ τ : State) (q : Call) (r : Answer) → GivenBytes q → (Roomy V σ.members → Makes V σ q r τ) → GoesOn V σ (event q r) τ
 goes V σ τ q r given makes start es k = kept_by_calls V start es σ τ q r k given (makes (kept_is_roomy V start es σ k))
-
--- a call whose answer was recorded
-pub recorded : (V : Shape) (σ τ : State) (q : Call) (rs : List Answer) (r : Answer) → rs ≡ r ∷ [] → GoesOn V σ (event q r) τ → GoesOn V σ (event_with q rs) τ
-recorded V σ τ q rs r e g = subst (λ (l : List Answer). GoesOn V σ (event_with q l) τ) (sym e) g
 
 -- what an answered read left in its buffer is what is recovered
 pub handed_out : (x : Result Unit Told) (held block old : List ℕ) → held ≡ cond (is_ok x) block old → answered (λ _. bytes held) x ≡ answered (λ _. bytes block) x
