@@ -5,7 +5,7 @@ use Rattle.std.specs.declared.alloc.Global.{Global}
 use Rattle.code.specs.Codes.{Coding}
 use Rattle.parity.specs.Stripe.{column}
 use Rattle.report.specs.Text.{hex, hex_digit, parity_line, pair_line, lines_with, lines_below, pairs, count_line}
-use Rattle.report.specs.Task.{stripe_report, by_number, bad_stripe}
+use Rattle.report.specs.Task.{stripe_report}
 
 -- a text grown by x, and then by y
 pub grown : (a x y s t : List ℕ) → s ≡ a ++ x → t ≡ s ++ y → t ≡ a ++ (x ++ y)
@@ -82,13 +82,6 @@ pub report_same : (C : Coding) (k : ℕ) (c d : ℕ → List ℕ) → column C k
 unfolding stripe_report
 report_same C k c d ep eq =
     ap₂ (λ x y. parity_line (codes "P") x ++ (parity_line (codes "Q") y ++ (lines_below (k + 2) (k + 2) ++ count_line (pairs (k + 2))))) ep eq
-
--- a number above 2 is no code's
-pub no_code : (n : ℕ) (task : List ℕ) → 2 < n → by_number n task ≡ bad_stripe
-no_code zero task h = absurd (omega arith)
-no_code (suc zero) task h = absurd (omega arith)
-no_code (suc (suc zero)) task h = absurd (omega arith)
-no_code (suc (suc (suc n))) task h = refl
 
 -- a text that was made, under another description
 pub made_as : {E : Type 0} (r : Result (String Global) E) (x y : List ℕ) → x ≡ y → IfOk r (λ s. string_bytes s ≡ x) → IfOk r (λ s. string_bytes s ≡ y)

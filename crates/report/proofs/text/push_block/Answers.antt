@@ -1,5 +1,4 @@
-use Rattle.std.proofs.Common.{◌++◌, string_bytes, sym, ap, ◌∙◌, arith, take_all}
-use Rattle.report.specs.Text.{hex}
+use Rattle.std.proofs.Common.{◌++◌, string_bytes, sym, ap, ◌∙◌, arith}
 use Rattle.report.proofs.Texts.{grown, same_text, hex_none, hex_more}
 use Rattle.report.proofs.text.push_block.Goals as goal
 
@@ -10,8 +9,3 @@ pub loop-b-preserved : goal.loop-b-preserved
 loop-b-preserved c =
     grown (string_bytes c.args.out.now) _ _ _ _ c.loop-b.invariant c.in_ok-push_hex.ensures.made
     ∙ ap (λ x. string_bytes c.args.out.now ++ x) (sym (hex_more c.args.block.now c.loop-b.b-index (omega arith)))
-
-pub returns : goal.returns
-returns c = record {
-  made = c.loop-b.invariant ∙ ap (λ x. string_bytes c.args.out.now ++ hex x) (take_all c.loop-b.b-index c.args.block.now (omega arith));
-}

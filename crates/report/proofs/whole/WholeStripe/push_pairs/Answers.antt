@@ -1,5 +1,4 @@
-use Rattle.std.proofs.Common.{◌≡◌, ◌++◌, length, string_bytes, sym, ap, ◌∙◌, arith}
-use Rattle.report.specs.Text.{lines_below}
+use Rattle.std.proofs.Common.{◌++◌, length, string_bytes, sym, ap, ◌∙◌}
 use Rattle.report.proofs.Texts.{grown, same_text, below_none, below_more}
 use Rattle.report.proofs.whole.WholeStripe.push_pairs.Goals as goal
 
@@ -10,8 +9,3 @@ pub loop-i-preserved : goal.loop-i-preserved
 loop-i-preserved g c =
     grown (string_bytes c.args.out.now) _ _ _ _ c.loop-i.invariant c.in_ok-push_pairs_of.ensures.made
     ∙ ap (λ x. string_bytes c.args.out.now ++ x) (sym (below_more (length c.args.self.now.columns.items) c.loop-i.i))
-
-pub returns : goal.returns
-returns g c =
-    let end : c.loop-i.i ≡ length c.args.self.now.columns.items = omega arith in
-    record { made = c.loop-i.invariant ∙ ap (λ x. string_bytes c.args.out.now ++ lines_below (length c.args.self.now.columns.items) x) end }

@@ -1,4 +1,4 @@
-use Rattle.std.proofs.Common.{◌≡◌, ◌+◌, ◌-◌, ◌++◌, length, string_bytes, sym, ap, ◌∙◌, arith}
+use Rattle.std.proofs.Common.{◌≡◌, ◌+◌, ◌-◌, ◌++◌, string_bytes, sym, ap, ◌∙◌, arith}
 use Rattle.report.specs.Text.{lines_with, pair_line}
 use Rattle.report.proofs.Texts.{grown, same_text, with_none, with_more}
 use Rattle.report.proofs.whole.WholeStripe.push_pairs_of.Goals as goal
@@ -17,9 +17,3 @@ loop-j-preserved g c =
     let line = c.in_ok-push_pair.ensures.made ∙ ap (λ b. string_bytes c.loop-j.out ++ pair_line i j b) c.survives.ensures.value in
     grown (string_bytes c.args.out.now) _ _ _ _ c.loop-j.invariant line
     ∙ ap (λ x. string_bytes c.args.out.now ++ x) (sym (with_more i (i + 1) j c.loop-j.auto.j))
-
-pub returns : goal.returns
-returns g c =
-    let i = c.args.i in
-    let end : c.loop-j.j ≡ length c.args.self.now.columns.items = omega (arith, c.loop-j.auto.j-end (omega arith)) in
-    record { made = c.loop-j.invariant ∙ ap (λ x. string_bytes c.args.out.now ++ lines_with i (i + 1) (x - (i + 1))) end }
