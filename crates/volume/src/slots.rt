@@ -7,7 +7,7 @@ ghost use Rattle.volume.specs.Slots.{frontier_of, records_of};
 use crate::size::MOST_SLOTS;
 use contents::{Refusal, SlotEvent, SlotRecord, SlotState};
 
-// The records of all slots.
+// The records of all slots: a fixed table, since a library takes no memory of its own.
 #[derive(Drop)]
 pub struct SlotTable {
     pub rows: [SlotRecord; 18],

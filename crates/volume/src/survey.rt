@@ -1,7 +1,8 @@
 // What of a stripe is missing.
 use recovery::loss::Lost;
 
-// The missing data columns of a stripe as far as they matter, whether P is current, and how many columns are missing.
+// The missing data columns of a stripe as far as they matter, whether P is current, and how many columns are missing. That it tells of a
+// stripe is asked by each function that takes one, since a type cannot name the bank as it then was.
 #[derive(Clone, Copy)]
 pub struct Survey {
     pub lost: Lost,

@@ -111,7 +111,7 @@ impl<C: Code, L: Layout> Grid<C, L> {
         self.status(bank, s, slot) == Status::Current
     }
 
-    // What is missing of stripe `s`.
+    // What is missing of stripe `s`. It counts beside what it notes, since a second look at each column would be slow.
     pub fn survey<B: Bank>(&self, bank: &B, s: usize) -> Survey
         ensures value { Surveyed (columns_on L.Layout self.now (slots_in B.Bank bank.now) s) (width self.now) result }
     {

@@ -53,7 +53,8 @@ fn with_mend(tally: Tally, taken: bool) -> Tally
 }
 
 impl<C: Code, L: Layout> Grid<C, L> {
-    // Writes the unreadable columns of stripe `s` on the first `i` slots anew, in slot order. Each is recovered before any is written.
+    // Writes the unreadable columns of stripe `s` on the first `i` slots anew, in slot order. Each is recovered before any is written,
+    // so it calls itself: a loop would have to keep all of them.
     fn scrub_slots<B: Bank>(&self, bank: &mut B, s: usize, i: usize, survey: Survey) -> Tally
         requires within { i ≤ self.now.size.slots }
         requires surveyed { Surveyed (columns_on L.Layout self.now (slots_in B.Bank bank.old) s) (width self.now) survey }
