@@ -33,7 +33,7 @@ impl fmt::Display for PlanRefusal {
 impl Error for PlanRefusal {}
 
 impl PlanRefusal {
-    // The number by which the refusal is known.
+    // The number by which the refusal is known: a method with a name, as of a cause.
     pub fn number(self) -> u8
         ensures value { result ≡ plan_number self }
     {
