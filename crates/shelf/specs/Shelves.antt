@@ -43,3 +43,13 @@ pub record Placed (xs : List ℕ) (n i a e : ℕ) : Type 0 where
   pub from : a ≡ i * span xs n
   pub to : e ≡ a + span xs n
   pub within : e ≤ length xs
+
+-- It is, and its block b is there, of as many bytes as a call's buffer of m.
+pub record Found (xs : List ℕ) (n i b m a e : ℕ) : Type 0 where
+  pub slot : i < n
+  pub from : a ≡ i * span xs n
+  pub to : e ≡ a + span xs n
+  pub within : e ≤ length xs
+  pub low : b < (image_meaning (part xs n i)).count
+  pub block : b * block_size + block_size ≤ span xs n
+  pub sized : m ≡ block_size

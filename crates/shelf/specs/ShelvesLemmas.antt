@@ -2,7 +2,7 @@
 use Rattle.std.specs.Prelude.{◌≡◌, ℕ, ◌+◌, ◌-◌, ◌*◌, ◌/◌, ◌^◌, ◌<◌, ◌≤◌, min, Bool, true, false, cond, List, ◌++◌, length, take, drop, is_some, Some, None, Option, ◌==◌, ◌≢◌, nat_lt, slice_index, slice_range, refl}
 use Rattle.std.proofs.Common.{sym, ap, subst, ◌∙◌, ⊎_elim, arith, mul-le-mul_right, suc-mul, mul_assoc, mul_comm, le-div_iff_mul-le, div-lt_iff_lt-mul, length-take, length-drop, take-append-drop}
 use Rattle.std.proofs.Math.Nat.{mul-div-le}
-use borrow.Rule.Slice.PartMut.{same_len_mid}
+use borrow.Rule.Slice.PartMut.{put_mid, same_len_mid}
 use Rattle.std.proofs.lemmas.Bool.{cond-true, cond-false, lt-ltb, le-ltb, eq-eqb, cases_order, cases_lt}
 use Rattle.std.proofs.lemmas.Slice.{between_is, between-put_mid, take-put_mid_below, drop-put_mid}
 use Rattle.code.specs.Blocks.{Bytes, block_size}
@@ -11,10 +11,10 @@ use Rattle.member.specs.Faults.{Refusal, raised}
 use Rattle.member.specs.Meaning.{Meaning, most_blocks, read_refusal, write_refusal}
 use Rattle.member.specs.Changes.{Written, Ticked, Renewed}
 use Rattle.member.specs.Runs.{bottom_origin, cut, pasted, image_meaning, image_wrote, image_count}
-use Rattle.member.specs.RunsLemmas.{read_ok, image_room, image_writes, image_lawful, length_wrote, low_wrote, low_take, low_drop, low_append}
+use Rattle.member.specs.RunsLemmas.{read_ok, handed_ok, wrote_ok, image_room, image_writes, image_lawful, length_wrote, low_wrote, low_take, low_drop, low_append}
 use Rattle.bank.specs.Slots.{Slots, no_slot, on_slot, slot_handed}
 use Rattle.bank.specs.Changes.{Changed, SlotWritten, Lawful}
-use Rattle.shelf.specs.Shelves.{Shelved, shelved, shelf_sound, span, part, with_part, shelf_meaning, shelf_wrote, Placed}
+use Rattle.shelf.specs.Shelves.{Shelved, shelved, shelf_sound, span, part, with_part, shelf_meaning, shelf_wrote, Placed, Found}
 
 -- ---- where the images lie
 step : (k i e : ℕ) → k < i → k * e + e ≤ i * e
@@ -223,3 +223,33 @@ pub lent_is : (xs zs : List ℕ) (n i a e : ℕ) → Placed xs n i a e → zs �
 lent_is xs zs n i a e at same =
     let width : e - a ≡ span xs n = omega (arith, at.to) in
     ap (λ ys. take (e - a) (drop a ys)) same ∙ ap (λ w. take w (drop a xs)) width ∙ ap (λ k. take (span xs n) (drop k xs)) at.from
+
+-- ---- an image that was found, as a block of it is handed out or put back
+module _ (xs : List ℕ) (n i b m a e : ℕ) (at : Found xs n i b m a e) where
+  placed : Placed xs n i a e
+  placed = record { slot = at.slot; from = at.from; to = at.to; within = at.within }
+
+  lent : slice_range xs a e ≡ part xs n i
+  lent = lent_is xs xs n i a e placed refl
+
+  pub lent_room : b * 512 + 512 ≤ length (slice_range xs a e)
+  lent_room = omega (arith, ap length lent, part_length xs n i at.slot, at.block)
+
+  pub back_is : (ys : List ℕ) → put_mid a (e - a) xs ys ≡ with_part xs n i ys
+  back_is ys =
+      let width : e - a ≡ span xs n = omega (arith, at.to) in
+      ap (λ w. put_mid a w xs ys) width ∙ ap (λ k. put_mid k (span xs n) xs ys) at.from
+
+  pub handed_found : (old : List ℕ) → length old ≡ m → cut (slice_range xs a e) b ≡ slot_handed (shelf_meaning (shelved xs n)) i b old
+  handed_found old long =
+      ap (λ p. cut p b) lent
+      ∙ sym (cond-true _ _ _ (lt-ltb i n at.slot) ∙ handed_ok (image_count (part xs n i)) (part xs n i) b at.low old (long ∙ at.sized))
+
+  pub wrote_found : (v : List ℕ) → length v ≡ m
+      → shelved (put_mid a (e - a) xs (pasted (slice_range xs a e) b v)) n ≡ shelf_wrote (shelved xs n) i b v
+  wrote_found v long =
+      ap (λ ys. shelved ys n)
+      (back_is _
+      ∙ ap (with_part xs n i)
+      (ap (λ p. pasted p b v) lent ∙ sym (wrote_ok (image_count (part xs n i)) (part xs n i) b at.low v (long ∙ at.sized))))
+      ∙ sym (wrote_here (shelved xs n) i b v at.slot)
