@@ -1,6 +1,6 @@
--- What a read and a write answer, check by check.
-use Rattle.std.proofs.Common.{◌≡◌, ℕ, ◌*◌, ◌<◌, ◌≤◌, Bool, true, false, cond, not, ◌&&◌, eqb, ltb, List, length, is_some, is_ok, Some, None, Ok, Err, Option, Result, sym, refl, ap, ◌∙◌, ⊎_elim, mul-zero, arith}
-use Rattle.std.proofs.lemmas.Bool.{false≢true, cases_eq, and_from, and_left, and_right, cond-true, cond-false, lt-ltb, le-ltb, ne_eqb, eq-eqb, not_from_true, not_from_false, not-true, not-false}
+-- What the calls on a volume answer and change, check by check.
+use Rattle.std.proofs.Common.{◌≡◌, ℕ, ◌<◌, ◌≤◌, Bool, true, false, cond, not, ◌&&◌, eqb, ltb, List, length, is_some, Some, None, Ok, Err, Option, Result, sym, refl, ap, ◌∙◌, arith}
+use Rattle.std.proofs.lemmas.Bool.{false≢true, and_from, and_left, and_right, cond-true, cond-false, lt-ltb, le-ltb, eq-eqb, not_from_true, not_from_false, not-true, not-false}
 use Rattle.code.specs.Blocks.{block_size}
 use Rattle.code.specs.Codes.{Coding, Lawful}
 use Rattle.code.specs.declared.Code.{Ghosts as Code}
@@ -9,11 +9,11 @@ use Rattle.layout.specs.Placing.{Placing}
 use Rattle.layout.specs.declared.Layout.{Ghosts as Layout}
 use Rattle.contents.specs.declared.Refusal.{Refusal}
 use Rattle.contents.specs.Columns.{Members, Frontiers}
-use Rattle.contents.specs.Refusals.{Told, plain, outcome}
-use Rattle.contents.specs.Shapes.{Shape, Valid, blocks, stripe_of, column_of, lossy, recovered_at}
-use Rattle.contents.specs.Answers.{read_outcome, read_leaves, write_takes, write_outcome, scrub_takes, scrub_outcome}
+use Rattle.contents.specs.Refusals.{Told}
+use Rattle.contents.specs.Shapes.{Shape, Valid, blocks, stripe_of, column_of, lossy}
+use Rattle.contents.specs.Answers.{write_takes, scrub_takes}
 use Rattle.contents.specs.Changes.{WriteChanges, ScrubChanges}
-use Rattle.volume.specs.Columns.{ColumnRead, ColumnWritten, StripeScrubbed}
+use Rattle.volume.specs.Columns.{ColumnWritten, StripeScrubbed}
 use Rattle.volume.specs.declared.size.Size.{Size}
 use Rattle.volume.specs.declared.grid.Grid.{Grid}
 use Rattle.volume.specs.Sizes.{Fitting, shape_at}
@@ -50,90 +50,24 @@ or_here o b x y h = ap (λ (p : Option (List ℕ)). or_else p x) h ∙ sym (ap (
 pub or_none : (o : Option (List ℕ)) (x : List ℕ) → o ≡ None → or_else o x ≡ x
 or_none o x h = ap (λ (p : Option (List ℕ)). or_else p x) h
 
--- ---- a read
-pub ok_same : (r : Result Unit Refusal) → is_ok (outcome r) ≡ is_ok r
-ok_same (Ok u) = refl
-ok_same (Err e) = refl
-
--- what a read answers, and what it leaves
-pub record ReadDone (V : Shape) (M : Members) (F : Frontiers) (a : ℕ) (old new : List ℕ) (r : Result Unit Told) : Type 0 where
-  pub answered : r ≡ read_outcome V M F a (length old)
-  pub after : new ≡ read_leaves V M F a old
-
-module _ (V : Shape) (M : Members) (F : Frontiers) (a : ℕ) (old : List ℕ) where
-  refused_read : (e : Told) → Err e ≡ read_outcome V M F a (length old) → ReadDone V M F a old old (Err e)
-  refused_read e h = record { answered = h; after = sym (cond-false _ _ _ (sym (ap is_ok h))) }
-
-  pub read_short : (length old ≡ block_size → ⊥) → ReadDone V M F a old old (Err (plain 3))
-  read_short n = refused_read (plain 3) (sym (cond-false _ _ _ (ne_eqb (length old) block_size n)))
-
-  pub read_beyond : length old ≡ block_size → blocks V ≤ a → ReadDone V M F a old old (Err (plain 2))
-  read_beyond h l = refused_read (plain 2) (sym (cond-true _ _ _ (eq-eqb (length old) block_size h) ∙ cond-false _ _ _ (le-ltb a (blocks V) l)))
-
-  pub read_within : length old ≡ block_size → a < blocks V → (r : Result Unit Refusal) (new : List ℕ) → ColumnRead V M F (stripe_of V a) (column_of V a) old new r → ReadDone V M F a old new (outcome r)
-  read_within h l r new d =
-      let w : outcome r ≡ read_outcome V M F a (length old) = d.answered ∙ sym (cond-true _ _ _ (eq-eqb (length old) block_size h) ∙ cond-true _ _ _ (lt-ltb a (blocks V) l)) in
-      record { answered = w; after = d.after ∙ ap (λ (b : Bool). cond b (recovered_at V M F (stripe_of V a) (column_of V a)) old) (sym (ok_same r) ∙ ap is_ok w) }
-
--- a product above a number has no factor 0
-pub factor : (a s k : ℕ) → a < s * k → 0 < k
-factor a s k l = ⊎_elim (λ (z : k ≡ 0). absurd (let e : s * k ≡ 0 = ap (λ (x : ℕ). s * x) z ∙ mul-zero s in omega arith)) (λ (z : k ≡ 0 → ⊥). omega arith) (cases_eq k 0)
-
--- ---- a write
-
--- what a write answers, and what it changes
-pub record WriteDone (V : Shape) (M : Members) (F : Frontiers) (a : ℕ) (v : List ℕ) (N : Members) (r : Result ℕ Told) : Type 0 where
-  pub answered : r ≡ write_outcome V M F a (length v) N
-  pub changes : WriteChanges V M F a v N
-
+-- ---- what a write and a scrub change
 module _ (V : Shape) (M : Members) (F : Frontiers) (a : ℕ) (v : List ℕ) where
-  -- a write that meets a check before that for loss
-  pub write_short : (length v ≡ block_size → ⊥) → WriteDone V M F a v M (Err (plain 3))
-  write_short n =
-      let e = ne_eqb (length v) block_size n in
-      record { answered = sym (cond-false _ _ _ e); changes = record { taken = λ t. absurd (false≢true (sym (and_left _ _ e) ∙ t)); refused = λ _. refl } }
-
-  pub write_beyond : length v ≡ block_size → blocks V ≤ a → WriteDone V M F a v M (Err (plain 2))
-  write_beyond h l =
-      let e = le-ltb a (blocks V) l in
-      record {
-        answered = sym (cond-true _ _ _ (eq-eqb (length v) block_size h) ∙ cond-false _ _ _ e);
-        changes = record { taken = λ t. absurd (false≢true (sym (and_right (eqb (length v) block_size) _ (and_left _ _ e)) ∙ t)); refused = λ _. refl };
-      }
-
-  pub write_within : length v ≡ block_size → a < blocks V → (N : Members) (r : Result ℕ Refusal) → ColumnWritten V M F (stripe_of V a) (column_of V a) v N r → WriteDone V M F a v N (outcome r)
+  pub write_within : length v ≡ block_size → a < blocks V → (N : Members) (r : Result ℕ Refusal) → ColumnWritten V M F (stripe_of V a) (column_of V a) v N r → WriteChanges V M F a v N
   write_within h l N r d =
-      let x = eq-eqb (length v) block_size h in
-      let y = lt-ltb a (blocks V) l in
-      let w : write_takes V M F a (length v) ≡ not (lossy V M F (stripe_of V a)) = both (eqb (length v) block_size) (ltb a (blocks V)) (not (lossy V M F (stripe_of V a))) x y in
-      record {
-        answered = d.answered ∙ sym (cond-true _ _ _ x ∙ cond-true _ _ _ y);
-        changes = record { taken = λ q. d.taken (not-true _ (sym w ∙ q)); refused = λ q. d.refused (not-false _ (sym w ∙ q)) };
-      }
+      let w : write_takes V M F a (length v) ≡ not (lossy V M F (stripe_of V a)) =
+      both (eqb (length v) block_size) (ltb a (blocks V)) (not (lossy V M F (stripe_of V a))) (eq-eqb (length v) block_size h) (lt-ltb a (blocks V) l) in
+      record { taken = λ q. d.taken (not-true _ (sym w ∙ q)); refused = λ q. d.refused (not-false _ (sym w ∙ q)) }
     where
       both : (a b d : Bool) → a ≡ true → b ≡ true → (a && (b && d)) ≡ d
       both true true d p q = refl
       both true false d p q = absurd (false≢true q)
       both false b d p q = absurd (false≢true p)
 
--- ---- a scrub
-
--- what a scrub answers, and what it changes
-pub record ScrubDone (V : Shape) (M : Members) (F : Frontiers) (s : ℕ) (N : Members) (r : Result (ℕ × ℕ × ℕ) Told) : Type 0 where
-  pub answered : r ≡ scrub_outcome V M F s
-  pub changes : ScrubChanges V M F s N
-
 module _ (V : Shape) (M : Members) (F : Frontiers) (s : ℕ) where
-  pub scrub_beyond : V.stripes ≤ s → ScrubDone V M F s M (Err (plain 2))
-  scrub_beyond l =
-      let e = le-ltb s V.stripes l in
-      record { answered = sym (cond-false _ _ _ e); changes = record { taken = λ t. absurd (false≢true (sym (and_left _ _ e) ∙ t)); refused = λ _. refl } }
+  pub scrub_beyond : V.stripes ≤ s → ScrubChanges V M F s M
+  scrub_beyond l = record { taken = λ t. absurd (false≢true (sym (and_left _ _ (le-ltb s V.stripes l)) ∙ t)); refused = λ _. refl }
 
-  pub scrub_within : s < V.stripes → (N : Members) (r : Result (ℕ × ℕ × ℕ) Refusal) → StripeScrubbed V M F s N r → ScrubDone V M F s N (outcome r)
+  pub scrub_within : s < V.stripes → (N : Members) (r : Result (ℕ × ℕ × ℕ) Refusal) → StripeScrubbed V M F s N r → ScrubChanges V M F s N
   scrub_within l N r d =
-      let y = lt-ltb s V.stripes l in
-      let w : scrub_takes V M F s ≡ not (lossy V M F s) = ap (λ (b : Bool). b && not (lossy V M F s)) y in
-      record {
-        answered = d.answered ∙ sym (cond-true _ _ _ y);
-        changes = record { taken = λ q. d.taken (not-true _ (sym w ∙ q)); refused = λ q. d.refused (not-false _ (sym w ∙ q)) };
-      }
+      let w : scrub_takes V M F s ≡ not (lossy V M F s) = ap (λ (b : Bool). b && not (lossy V M F s)) (lt-ltb s V.stripes l) in
+      record { taken = λ q. d.taken (not-true _ (sym w ∙ q)); refused = λ q. d.refused (not-false _ (sym w ∙ q)) }

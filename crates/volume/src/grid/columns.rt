@@ -1,6 +1,5 @@
 // The columns of one stripe: which are missing, and what the members hold of them.
-ghost use Rattle.std.specs.Prelude.{◌≡◌, ◌*◌, ◌||◌, length, is_some, nat_lt};
-ghost use Rattle.code.specs.Blocks.{block_size};
+ghost use Rattle.std.specs.Prelude.{◌≡◌, ◌*◌, ◌||◌, is_some, nat_lt};
 ghost use Rattle.parity.specs.Ways.{or_else};
 ghost use Rattle.contents.specs.Columns.{status, count};
 ghost use Rattle.contents.specs.Changes.{Moved, Put, due};
@@ -12,7 +11,7 @@ use crate::grid::Grid;
 use crate::members::{is_gone, present_status};
 use crate::survey::Survey;
 use bank::Bank;
-use code::Code;
+use code::{BLOCK, Code};
 use contents::{Loss, Status};
 use layout::Layout;
 use recovery::loss::Lost;
@@ -130,8 +129,7 @@ impl<C: Code, L: Layout> Grid<C, L> {
     }
 
     // Reads column `t` of stripe `s` into a buffer, if it is current.
-    pub fn load<B: Bank>(&self, bank: &mut B, s: usize, t: usize, into: &mut [u8]) -> bool
-        requires sized { length into.old ≡ block_size }
+    pub fn load<B: Bank>(&self, bank: &mut B, s: usize, t: usize, into: &mut [u8; BLOCK]) -> bool
         ensures same { slots_in B.Bank bank.new ≡ slots_in B.Bank bank.old }
         ensures current { result ≡ is_some (columns_on L.Layout self.now (slots_in B.Bank bank.old) s t) }
         ensures after { into.new ≡ or_else (columns_on L.Layout self.now (slots_in B.Bank bank.old) s t) into.old }
@@ -144,7 +142,7 @@ impl<C: Code, L: Layout> Grid<C, L> {
     }
 
     // Writes bytes to column `t` of stripe `s`, if the stripe is below the frontier of its slot; what the member refuses is left.
-    pub fn store<B: Bank>(&self, bank: &mut B, s: usize, t: usize, bytes: &[u8])
+    pub fn store<B: Bank>(&self, bank: &mut B, s: usize, t: usize, bytes: &[u8; BLOCK])
         ensures stored { Moved (Put (due (members_in B.Bank bank.old) (grid_frontiers self.now) s (L.Layout.slot self.now.layout self.now.size.slots s t)) s bytes.now) (L.Layout.slot self.now.layout self.now.size.slots s t) (members_in B.Bank bank.old) (members_in B.Bank bank.new) }
     {
         let slot = self.layout.slot_of(self.size.slots, s, t);

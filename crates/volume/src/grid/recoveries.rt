@@ -1,6 +1,6 @@
 // Recovery of a missing column from the current ones of its stripe.
-ghost use Rattle.std.specs.Prelude.{◌≡◌, ◌+◌, false, length, is_some, if◌then◌else◌};
-ghost use Rattle.code.specs.Blocks.{block_size, zeros};
+ghost use Rattle.std.specs.Prelude.{◌≡◌, ◌+◌, false, is_some, if◌then◌else◌};
+ghost use Rattle.code.specs.Blocks.{zeros};
 ghost use Rattle.parity.specs.Stripe.{plain_sum, mixed_sum};
 ghost use Rattle.parity.specs.Ways.{takes_plain, takes_mixed};
 ghost use Rattle.volume.specs.Grids.{width, columns_on, recovered_on};
@@ -39,9 +39,8 @@ impl<C: Code, L: Layout> Grid<C, L> {
         s: usize,
         t: usize,
         survey: Survey,
-        into: &mut [u8],
+        into: &mut [u8; BLOCK],
     )
-        requires sized { length into.old ≡ block_size }
         requires surveyed { Surveyed (columns_on L.Layout self.now (slots_in B.Bank bank.old) s) (width self.now) survey }
         requires missing { is_some (columns_on L.Layout self.now (slots_in B.Bank bank.old) s t) ≡ false }
         ensures same { slots_in B.Bank bank.new ≡ slots_in B.Bank bank.old }
@@ -49,14 +48,20 @@ impl<C: Code, L: Layout> Grid<C, L> {
     {
         let way = survey.lost.way(self.width(), survey.p, t);
         let mut mixed = [0u8; BLOCK];
-        into.copy_from_slice(&mixed);
+        *into = mixed;
         self.gather(bank, s, way, into, &mut mixed);
         let _ = solve(&self.code, way, into, &mut mixed);
     }
 
     // Column `t` of stripe `s` into a buffer: read if it is current, else recovered from the others.
-    pub fn fetch<B: Bank>(&self, bank: &mut B, s: usize, t: usize, survey: Survey, into: &mut [u8])
-        requires sized { length into.old ≡ block_size }
+    pub fn fetch<B: Bank>(
+        &self,
+        bank: &mut B,
+        s: usize,
+        t: usize,
+        survey: Survey,
+        into: &mut [u8; BLOCK],
+    )
         requires surveyed { Surveyed (columns_on L.Layout self.now (slots_in B.Bank bank.old) s) (width self.now) survey }
         ensures same { slots_in B.Bank bank.new ≡ slots_in B.Bank bank.old }
         ensures value { into.new ≡ recovered_on C.Code L.Layout self.now (slots_in B.Bank bank.old) s t }

@@ -1,6 +1,5 @@
 // Reads of a volume: one member where the block's column is current, else what the others recover.
 ghost use Rattle.std.specs.Prelude.{◌≡◌, length};
-ghost use Rattle.code.specs.Blocks.{block_size};
 ghost use Rattle.contents.specs.Refusals.{outcome};
 ghost use Rattle.contents.specs.Answers.{read_outcome, read_leaves};
 ghost use Rattle.volume.specs.Columns.{ColumnRead};
@@ -23,9 +22,8 @@ impl<C: Code, L: Layout> Grid<C, L> {
         bank: &mut B,
         s: usize,
         t: usize,
-        into: &mut [u8],
+        into: &mut [u8; BLOCK],
     ) -> Result<(), Refusal>
-        requires sized { length into.old ≡ block_size }
         ensures read { ColumnRead (grid_shape C.Code L.Layout self.now) (members_in B.Bank bank.old) (grid_frontiers self.now) s t into.old into.new result }
         ensures same { slots_in B.Bank bank.new ≡ slots_in B.Bank bank.old }
     {
@@ -51,9 +49,7 @@ impl<C: Code, L: Layout, B: Bank> Volume<C, L, B> {
         ensures right { Reading (shape C.Code L.Layout self.old) (members B.Bank self.old) (frontiers self.old) }
         ensures loss { Losing (shape C.Code L.Layout self.old) (members B.Bank self.old) (frontiers self.old) }
     {
-        if buffer.len() != BLOCK {
-            return Err(Refusal::Length);
-        }
+        let buffer = buffer.as_mut_array::<BLOCK>().ok_or(Refusal::Length)?;
         if block >= self.grid.blocks() {
             return Err(Refusal::NoSuch);
         }

@@ -1,6 +1,6 @@
 // Writes to a volume: the difference that a block makes goes to its own column, to P and to Q.
 ghost use Rattle.std.specs.Prelude.{◌≡◌, ◌+◌, ◌<◌, length};
-ghost use Rattle.code.specs.Blocks.{◌⊕◌, block_size};
+ghost use Rattle.code.specs.Blocks.{◌⊕◌};
 ghost use Rattle.contents.specs.Refusals.{outcome};
 ghost use Rattle.contents.specs.Changes.{WriteChanges};
 ghost use Rattle.contents.specs.Answers.{after_write, write_outcome};
@@ -30,12 +30,11 @@ impl<C: Code, L: Layout> Grid<C, L> {
         s: usize,
         c: usize,
         survey: Survey,
-        bytes: &[u8],
-        p: &mut [u8],
-        q: &mut [u8],
+        bytes: &[u8; BLOCK],
+        p: &mut [u8; BLOCK],
+        q: &mut [u8; BLOCK],
     )
         requires column { c < width self.now }
-        requires sizes { (length bytes.now ≡ block_size) × (length p.old ≡ block_size) × (length q.old ≡ block_size) }
         requires surveyed { Surveyed (columns_on L.Layout self.now (slots_in B.Bank bank.old) s) (width self.now) survey }
         ensures same { slots_in B.Bank bank.new ≡ slots_in B.Bank bank.old }
         ensures p { p.new ≡ recovered_on C.Code L.Layout self.now (slots_in B.Bank bank.old) s (width self.now) ⊕ (recovered_on C.Code L.Layout self.now (slots_in B.Bank bank.old) s c ⊕ bytes.now) }
@@ -62,7 +61,15 @@ impl<C: Code, L: Layout> Grid<C, L> {
     }
 
     // Writes bytes to data column `c` of stripe `s`, and the new P and Q, in that order.
-    fn spread<B: Bank>(&self, bank: &mut B, s: usize, c: usize, bytes: &[u8], p: &[u8], q: &[u8])
+    fn spread<B: Bank>(
+        &self,
+        bank: &mut B,
+        s: usize,
+        c: usize,
+        bytes: &[u8; BLOCK],
+        p: &[u8; BLOCK],
+        q: &[u8; BLOCK],
+    )
         ensures stored { Stores (L.Layout.slot self.now.layout self.now.size.slots s) (grid_frontiers self.now) s (width self.now) c bytes.now p.now q.now (members_in B.Bank bank.old) (members_in B.Bank bank.new) }
     {
         let k = self.width();
@@ -77,10 +84,9 @@ impl<C: Code, L: Layout> Grid<C, L> {
         bank: &mut B,
         s: usize,
         c: usize,
-        bytes: &[u8],
+        bytes: &[u8; BLOCK],
     ) -> Result<usize, Refusal>
         requires within { (s < self.now.size.stripes) × (c < width self.now) }
-        requires sized { length bytes.now ≡ block_size }
         ensures written { ColumnWritten (grid_shape C.Code L.Layout self.now) (members_in B.Bank bank.old) (grid_frontiers self.now) s c bytes.now (members_in B.Bank bank.new) result }
     {
         let survey = self.survey(bank, s);
@@ -104,9 +110,7 @@ impl<C: Code, L: Layout, B: Bank> Volume<C, L, B> {
         ensures right { Roomy (shape C.Code L.Layout self.old) (members B.Bank self.old) → Writing (shape C.Code L.Layout self.old) (members B.Bank self.old) (frontiers self.old) block bytes.now (members B.Bank self.new) }
         ensures loss { Losing (shape C.Code L.Layout self.old) (members B.Bank self.old) (frontiers self.old) }
     {
-        if bytes.len() != BLOCK {
-            return Err(Refusal::Length);
-        }
+        let bytes = bytes.as_array::<BLOCK>().ok_or(Refusal::Length)?;
         if block >= self.grid.blocks() {
             return Err(Refusal::NoSuch);
         }

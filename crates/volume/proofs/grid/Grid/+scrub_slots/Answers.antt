@@ -1,4 +1,4 @@
-use Rattle.std.proofs.Common.{◌≡◌, ℕ, ◌+◌, ◌-◌, ◌<◌, ◌≤◌, true, false, List, length, refl, ap, ◌∙◌, subst, arith}
+use Rattle.std.proofs.Common.{◌≡◌, ℕ, ◌+◌, ◌-◌, ◌<◌, ◌≤◌, true, false, List, length, ap, ◌∙◌, subst, arith}
 use Rattle.parity.specs.Ways.{recovered}
 use Rattle.member.specs.Changes.{Written}
 use Rattle.bank.specs.Slots.{Slots}
@@ -49,7 +49,6 @@ rebuild-requires g t c =
     let l : j < n = omega (arith, c.if-i-eq0.false, c.requires.within) in
     let u : is_unreadable (status M F s j) ≡ true = unreadable_is c.status-how.result _ false c.if-ne.ensures c.status-how.ensures.value in
     record {
-      sized = refl;
       surveyed = c.requires.surveyed;
       missing = unreadable_missing M F s j _ (ap (g.L.Layout.slot c.args.self.now.layout n s) c.column_of-t.ensures.value ∙ (g.met.L.Layout.lawful c.args.self.now.layout n s).back j l) u;
     }
@@ -81,7 +80,7 @@ returns g t c =
     let t0 = subst (λ (xs : Slots). c.scrub_slots-tally.result ≡ tally_of (members_of xs) F s j) c.rebuild.ensures.same c.scrub_slots-tally.ensures.tally in
     let v : c.rebuild.new.into ≡ col ms j = c.rebuild.ensures.value ∙ ap (λ (x : ℕ). recovered C (n - 2) (columns_on g.L.Layout c.args.self.now ms s) x) c.column_of-t.ensures.value in
     let h = subst (λ (x : List ℕ). Moved (λ a b. Written a s x b) j N O) v (written_moved s c.rebuild.new.into _ _ j c.write.ensures.after) in
-    let ok = write_takes_is ns j s (length c.rebuild.new.into) (M j) c.write.result c.is_ok.result c.rebuild.auto.into (not_yet M F s (col ms) j N w) c.write.ensures.answered c.is_ok.ensures.value in
+    let ok = write_takes_is ns j s (length c.rebuild.new.into) (M j) c.write.result c.is_ok.result c.rebuild.array_long (not_yet M F s (col ms) j N w) c.write.ensures.answered c.is_ok.ensures.value in
     record {
       steps = scrub_write M F s (col ms) c.args.i j N O e w u h;
       tally = tally_mend M F s c.args.i j c.is_ok.result c.scrub_slots-tally.result c.with_mend.result e ok u t0 c.with_mend.ensures.value;

@@ -17,7 +17,6 @@ pub rebuild-requires : goal.rebuild-requires
 rebuild-requires g c =
     let cols = λ (ms : Slots). columns_on g.L.Layout c.args.self.now ms c.args.s in
     record {
-      sized = c.load.auto.into ∙ c.requires.sized;
       surveyed = subst (λ (ms : Slots). Surveyed (cols ms) (width c.args.self.now) c.args.survey) (sym c.load.ensures.same) c.requires.surveyed;
       missing = ap (λ (ms : Slots). is_some (cols ms c.args.t)) c.load.ensures.same ∙ sym c.if-load.ensures.current;
     }

@@ -13,7 +13,7 @@ use Rattle.volume.proofs.grid.Grid.gather.Goals as goal
 use Rattle.volume.proofs.grid.Grid.gather.Goals.{then-load, else-load}
 
 pub loop-t-init : goal.loop-t-init
-loop-t-init g c = (refl, refl, needed_none _ _ _ (sum_none _) c.requires.empty.0, needed_none _ _ _ (sum_none _) c.requires.empty.1)
+loop-t-init g c = (refl, needed_none _ _ _ (sum_none _) c.requires.empty.0, needed_none _ _ _ (sum_none _) c.requires.empty.1)
 
 pub loop-t-preserved : goal.loop-t-preserved
 loop-t-preserved g c =
@@ -32,7 +32,7 @@ loop-t-preserved g c =
       | then-load w ↦
           let h = loaded o c.loop-t.scratch c.load.new.into w.if-load.ensures.current c.load.ensures.after in
           let ok : is_ok w.add_column.result ≡ true =
-          column_ok C.limit k t c.load.new.into c.loop-t.plain c.loop-t.mixed w.add_column.result c.args.self.now.fitting.reach (omega (arith, n)) (c.load.auto.into ∙ c.loop-t.invariant.1) lp lm (rw n at w.add_column.ensures.answered) in (
+          column_ok C.limit k t c.load.new.into c.loop-t.plain c.loop-t.mixed w.add_column.result c.args.self.now.fitting.reach (omega (arith, n)) c.load.array_long lp lm (rw n at w.add_column.ensures.answered) in (
             w.plain-is ∙ added (is_ok w.add_column.result) (takes_plain way) (plain_part k t) o c.load.new.into c.loop-t.plain w.add_column.new.plain ok h (rw n at w.add_column.ensures.plain),
             w.mixed-is ∙ added (is_ok w.add_column.result) (takes_mixed way) (mixed_part C k t) o c.load.new.into c.loop-t.mixed w.add_column.new.mixed ok h (rw n at w.add_column.ensures.mixed),
           )
@@ -43,9 +43,8 @@ loop-t-preserved g c =
     let p = step.0 ∙ ap (λ (ms : Slots). cond (takes_plain way) (c.loop-t.plain ⊕ if_present (plain_part k t) (col ms)) c.loop-t.plain) c.loop-t.invariant.0 in
     let q = step.1 ∙ ap (λ (ms : Slots). cond (takes_mixed way) (c.loop-t.mixed ⊕ if_present (mixed_part C k t) (col ms)) c.loop-t.mixed) c.loop-t.invariant.0 in (
       c.load.ensures.same ∙ c.loop-t.invariant.0,
-      c.load.auto.into ∙ c.loop-t.invariant.1,
-      needed_step _ _ _ _ _ c.loop-t.invariant.2 p,
-      needed_step _ _ _ _ _ c.loop-t.invariant.3 q,
+      needed_step _ _ _ _ _ c.loop-t.invariant.1 p,
+      needed_step _ _ _ _ _ c.loop-t.invariant.2 q,
     )
 
 pub returns : goal.returns
@@ -55,6 +54,6 @@ returns g c =
     let cols = columns_on g.L.Layout c.args.self.now (slots_in g.B.Bank c.args.bank.now) c.args.s in
     record {
       same = c.loop-t.invariant.0;
-      plain = subst (λ (x : ℕ). c.loop-t.plain ≡ cond (takes_plain c.args.way) (plain_sum k cols x) zeros) e c.loop-t.invariant.2;
-      mixed = subst (λ (x : ℕ). c.loop-t.mixed ≡ cond (takes_mixed c.args.way) (mixed_sum (g.C.Code.coding c.args.self.now.code) k cols x) zeros) e c.loop-t.invariant.3;
+      plain = subst (λ (x : ℕ). c.loop-t.plain ≡ cond (takes_plain c.args.way) (plain_sum k cols x) zeros) e c.loop-t.invariant.1;
+      mixed = subst (λ (x : ℕ). c.loop-t.mixed ≡ cond (takes_mixed c.args.way) (mixed_sum (g.C.Code.coding c.args.self.now.code) k cols x) zeros) e c.loop-t.invariant.2;
     }

@@ -27,7 +27,7 @@ returns g c =
     record {
       same = c.read.ensures.same;
       current = subst (λ (x : ℕ). c.is_ok.result ≡ is_some (held (members_of ms) F s x)) c.slot_of-slot.ensures.value
-          (load_current ms sound i s old c.requires.sized F below c.read.new.buffer c.read.result c.is_ok.result c.read.ensures.answered c.is_ok.ensures.value c.read.ensures.after);
+          (load_current ms sound i s old c.told-into F below c.read.new.buffer c.read.result c.is_ok.result c.read.ensures.answered c.is_ok.ensures.value c.read.ensures.after);
       after = subst (λ (x : ℕ). c.read.new.buffer ≡ or_else (held (members_of ms) F s x) old) c.slot_of-slot.ensures.value
-          (load_after ms sound i s old c.requires.sized F below c.read.new.buffer c.read.result c.is_ok.result c.read.ensures.answered c.is_ok.ensures.value c.read.ensures.after);
+          (load_after ms sound i s old c.told-into F below c.read.new.buffer c.read.result c.is_ok.result c.read.ensures.answered c.is_ok.ensures.value c.read.ensures.after);
     }

@@ -11,7 +11,6 @@ pub fetch-requires-2 : goal.fetch-requires-2
 fetch-requires-2 g c =
     let cols = λ (ms : Slots). columns_on g.L.Layout c.args.self.now ms c.args.s in
     record {
-      sized = c.requires.sizes.1;
       surveyed = subst (λ (ms : Slots). Surveyed (cols ms) (width c.args.self.now) c.args.survey) (sym c.fetch.ensures.same) c.requires.surveyed;
     }
 
@@ -19,7 +18,6 @@ pub fetch-requires-3 : goal.fetch-requires-3
 fetch-requires-3 g c =
     let cols = λ (ms : Slots). columns_on g.L.Layout c.args.self.now ms c.args.s in
     record {
-      sized = c.requires.sizes.2;
       surveyed = subst (λ (ms : Slots). Surveyed (cols ms) (width c.args.self.now) c.args.survey) (sym (c.fetch-2.ensures.same ∙ c.fetch.ensures.same)) c.requires.surveyed;
     }
 
@@ -36,11 +34,11 @@ returns g c =
     let eq : c.fetch-3.new.into ≡ recovered C k (cols ms) (k + 1) =
     c.fetch-3.ensures.value ∙ ap₂ (λ (x : Slots) (t : ℕ). recovered C k (cols x) (t + 1)) two n in
     let d0 : c.xor_into.new.into ≡ c.fetch.new.into ⊕ c.args.bytes.now =
-    xor_done c.args.bytes.now c.fetch.new.into c.xor_into.new.into c.xor_into.result c.requires.sizes.0 c.fetch.auto.into c.xor_into.ensures.answered c.xor_into.ensures.after in
+    xor_done c.args.bytes.now c.fetch.new.into c.xor_into.new.into c.xor_into.result c.told-bytes c.fetch.array_long c.xor_into.ensures.answered c.xor_into.ensures.after in
     let ed = d0 ∙ ap (λ (x : List ℕ). x ⊕ c.args.bytes.now) c.fetch.ensures.value in
     let ok : is_ok c.change.result ≡ _ =
     change_ok C.limit c.args.c c.xor_into.new.into c.fetch-2.new.into c.fetch-3.new.into c.change.result (omega (arith, c.requires.column, c.args.self.now.fitting.reach))
-    (c.xor_into.auto.into ∙ c.fetch.auto.into) (c.fetch-2.auto.into ∙ c.requires.sizes.1) (c.fetch-3.auto.into ∙ c.requires.sizes.2) c.change.ensures.answered in
+    (c.xor_into.auto.into ∙ c.fetch.array_long) c.fetch-2.array_long c.fetch-3.array_long c.change.ensures.answered in
     record {
       same = c.fetch-3.ensures.same ∙ two;
       p = change_done (λ (x : List ℕ). x) (is_ok c.change.result) _ _ _ _ _ ok ep ed c.change.ensures.p;

@@ -1,4 +1,4 @@
-use Rattle.std.proofs.Common.{◌≡◌, ◌<◌, refl, ap, ◌∙◌, arith}
+use Rattle.std.proofs.Common.{◌≡◌, ◌<◌, ap, ◌∙◌, arith}
 use Rattle.std.proofs.lemmas.Result.{err_from_is_err_and}
 use Rattle.contents.specs.Shapes.{missing_at, recovered_at}
 use Rattle.volume.proofs.Rebuilding.{behind_missing, column_lossy, column_written, lifted_ok, lifted_err}
@@ -20,7 +20,6 @@ rebuild-requires g c =
     let x = c.args.self.now in
     let place = g.L.Layout.slot x.layout x.size.slots c.args.s in
     record {
-      sized = refl;
       surveyed = c.survey-survey.ensures.value;
       missing = behind_missing (members_in g.B.Bank c.args.bank.now) (grid_frontiers x) c.args.s c.args.slot _
           (ap place c.column_of-t.ensures.value ∙ (g.met.L.Layout.lawful x.layout x.size.slots c.args.s).back c.args.slot c.requires.within.0) c.requires.behind;
@@ -37,7 +36,7 @@ returns-in_err-write g c =
     let p = err_from_is_err_and c.from_residual.result c.from_residual.ensures.1 in
     record {
       rebuilt = column_written V ms F s j (omega arith) c.requires.within.0 c.requires.within.1 (slots_in g.B.Bank c.rebuild.new.bank) c.rebuild.ensures.same c.rebuild.new.into
-          (c.rebuild.ensures.value ∙ ap (recovered_at V (members_in g.B.Bank c.args.bank.now) F s) c.column_of-t.ensures.value) c.rebuild.auto.into
+          (c.rebuild.ensures.value ∙ ap (recovered_at V (members_in g.B.Bank c.args.bank.now) F s) c.column_of-t.ensures.value) c.rebuild.array_long
           (slots_in g.B.Bank c.write.new.self) c.write.ensures.after c.write.result c.write.ensures.answered c.from_residual.result (lifted_err c.write.result _ c.in_err-write.was c.from_residual.result p.0 p.1 p.2);
     }
 
@@ -51,6 +50,6 @@ returns g c =
     let e : c.survey-survey.result.missing ≡ missing_at V (members_in g.B.Bank c.args.bank.now) F s = c.survey-survey.ensures.value.count in
     record {
       rebuilt = column_written V ms F s j (omega arith) c.requires.within.0 c.requires.within.1 (slots_in g.B.Bank c.rebuild.new.bank) c.rebuild.ensures.same c.rebuild.new.into
-          (c.rebuild.ensures.value ∙ ap (recovered_at V (members_in g.B.Bank c.args.bank.now) F s) c.column_of-t.ensures.value) c.rebuild.auto.into
+          (c.rebuild.ensures.value ∙ ap (recovered_at V (members_in g.B.Bank c.args.bank.now) F s) c.column_of-t.ensures.value) c.rebuild.array_long
           (slots_in g.B.Bank c.write.new.self) c.write.ensures.after c.write.result c.write.ensures.answered _ (lifted_ok c.write.result _ c.in_ok-write.was);
     }

@@ -14,7 +14,6 @@ use Rattle.volume.proofs.grid.Grid.write_column.Goals as goal
 pub parities-requires : goal.parities-requires
 parities-requires g c = record {
   column = c.requires.within.1;
-  sizes = (c.requires.sized, refl, refl);
   surveyed = c.survey-survey.ensures.value;
 }
 
