@@ -1,5 +1,5 @@
 -- Loops that go over a buffer byte by byte and write each byte once.
-use Rattle.std.proofs.Common.{◌≡◌, ℕ, ◌+◌, ◌<◌, ◌≤◌, min, List, length, get_or, set, sym, refl, ap, ◌∙◌, inl, inr, arith}
+use Rattle.std.proofs.Common.{◌≡◌, ℕ, ◌+◌, ◌<◌, ◌≤◌, min, List, length, get_or, set, sym, ap, ◌∙◌, inl, inr, arith}
 use lib.Bits.{bit_xor, xor_zero_r}
 use Rattle.std.proofs.lemmas.List.{get_or-set_same, get_or-set_other, length-set, get_or_past}
 use Rattle.std.proofs.lemmas.Bool.{cases_eq, cases_lt}
@@ -11,9 +11,6 @@ pub record Half (h : ℕ → ℕ) (old s : List ℕ) (i : ℕ) : Type 0 where
   pub len : length s ≡ length old
   pub done : (k : ℕ) → k < i → get_or s k 0 ≡ h k
   pub rest : (k : ℕ) → i ≤ k → get_or s k 0 ≡ get_or old k 0
-
-pub half_none : (h : ℕ → ℕ) (old : List ℕ) → Half h old old 0
-half_none h old = record { len = refl; done = λ k l. absurd (omega arith); rest = λ k l. refl }
 
 pub half_more : (h : ℕ → ℕ) (old s : List ℕ) (i v : ℕ) → i < length old → v ≡ h i → Half h old s i → Half h old (set s i v) (i + 1)
 half_more h old s i v l e p = record {

@@ -6,6 +6,7 @@ ghost use Rattle.code.specs.Blocks.{◌⊕◌, block_size};
 ghost use Rattle.code.specs.Codes.{Coding, Lawful};
 ghost use Rattle.code.specs.Answers.{answer, sized, on_column, on_pair};
 
+pub mod checks;
 pub mod xor;
 
 // How many bytes a block has.

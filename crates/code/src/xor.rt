@@ -9,6 +9,7 @@ use crate::{BLOCK, CodeRefusal};
 pub fn xor_run(from: &[u8], into: &mut [u8])
     ensures after { into.new ≡ onto into.old from.now }
 {
+    // By index: once `into.iter_mut().zip(from)` is over, a proof knows nothing of the bytes that it wrote (tried).
     let n = into.len().min(from.len());
     for i in 0..n {
         into[i] ^= from[i];
@@ -20,9 +21,8 @@ pub fn xor_into(block: &[u8], into: &mut [u8]) -> Result<(), CodeRefusal>
     ensures answered { answer result ≡ on_buffers (sized block.now && sized into.old) }
     ensures after { into.new ≡ (if is_ok result then (into.old ⊕ block.now) else into.old) }
 {
-    if block.len() != BLOCK || into.len() != BLOCK {
-        return Err(CodeRefusal::Length);
-    }
+    let block = block.as_array::<BLOCK>().ok_or(CodeRefusal::Length)?;
+    let into = into.as_mut_array::<BLOCK>().ok_or(CodeRefusal::Length)?;
     xor_run(block, into);
     Ok(())
 }

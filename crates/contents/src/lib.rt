@@ -33,7 +33,7 @@ pub struct Loss {
     pub unreadable: u32,
 }
 
-// Whether parts can make a volume.
+// Whether parts can make a volume: two words and no `bool`, which would not say which of them `true` is.
 #[derive(Clone, Copy, PartialEq, Eq, Debug)]
 pub enum Fitness {
     Fit,
@@ -61,7 +61,7 @@ pub enum SlotEvent {
 }
 
 // The record of a slot. The stripes below its frontier are in its member.
-#[derive(Clone, Copy)]
+#[derive(Clone, Copy, PartialEq, Eq, Debug)]
 pub struct SlotRecord {
     pub state: SlotState,
     pub frontier: usize,
@@ -98,7 +98,7 @@ impl From<BankFault> for Refusal {
 }
 
 impl Refusal {
-    // The number by which the refusal is known.
+    // The number by which the refusal is known. A method and no `From`, since `u8::from(refusal)` would not say which number.
     pub fn number(self) -> u8
         ensures value { result ≡ (told self).number }
     {
@@ -133,10 +133,8 @@ impl SlotRecord {
                 self.state = SlotState::Open;
                 Ok(self.frontier)
             }
-            (SlotState::Idle, SlotEvent::Stepped) => Err(Refusal::NotOpen),
-            (SlotState::Idle, SlotEvent::Closed) => Err(Refusal::NotOpen),
-            (SlotState::Open, SlotEvent::Replaced) => Err(Refusal::Busy),
-            (SlotState::Open, SlotEvent::Opened) => Err(Refusal::Busy),
+            (SlotState::Idle, SlotEvent::Stepped | SlotEvent::Closed) => Err(Refusal::NotOpen),
+            (SlotState::Open, SlotEvent::Replaced | SlotEvent::Opened) => Err(Refusal::Busy),
             (SlotState::Open, SlotEvent::Stepped) => {
                 if self.frontier >= stripes {
                     return Err(Refusal::Whole);
@@ -154,87 +152,63 @@ impl SlotRecord {
 
 // A read that is answered leaves the block of every content that fits. Where some content fits, all that fit agree at a block
 // exactly when its read is answered.
-pub fn reads() -> u8
+pub fn reads()
     ensures stands { Reads }
-{
-    0
-}
+{}
 
 // A content that fits before a taken write fits after it with the new block, whichever of its three columns the members refuse.
-pub fn writes() -> u8
+pub fn writes()
     ensures stands { Writes }
-{
-    0
-}
+{}
 
 // Every content that fits before a scrub fits after it, and what the members take is mended.
-pub fn scrubs() -> u8
+pub fn scrubs()
     ensures stands { Scrubs }
-{
-    0
-}
+{}
 
 // Every content that fits before a tick fits after it.
-pub fn ticks() -> u8
+pub fn ticks()
     ensures stands { Ticks }
-{
-    0
-}
+{}
 
 // The content of zeros fits after formatting, whatever the members refused.
-pub fn formats() -> u8
+pub fn formats()
     ensures stands { Formats }
-{
-    0
-}
+{}
 
 // The smallest count is below no member's, and one member has it.
-pub fn smallest_count() -> u8
+pub fn smallest_count()
     ensures stands { SmallestCount }
-{
-    0
-}
+{}
 
 // The parts of a volume, fit or unfit, give it a valid shape.
-pub fn forms() -> u8
+pub fn forms()
     ensures stands { Forms }
-{
-    0
-}
+{}
 
 // A write or scrub is refused for loss exactly when three or more columns of its stripe are missing, and the masks name exactly
 // those slots, each once and with its cause.
-pub fn losses() -> u8
+pub fn losses()
     ensures stands { Losses }
-{
-    0
-}
+{}
 
 // Every content that fits before a replacement fits after it, whatever the fresh member holds.
-pub fn replaces() -> u8
+pub fn replaces()
     ensures stands { Replaces }
-{
-    0
-}
+{}
 
 // Every content that fits goes on fitting as a rebuild begins or ends.
-pub fn opens_and_closes() -> u8
+pub fn opens_and_closes()
     ensures opens { Opens }
     ensures closes { Closes }
-{
-    0
-}
+{}
 
 // Every content that fits before a step of a rebuild fits after it, with one more stripe of the slot in its member if that took it.
-pub fn rebuilds() -> u8
+pub fn rebuilds()
     ensures stands { Rebuilds }
-{
-    0
-}
+{}
 
 // A step that meets no earlier check is refused for loss exactly when three or more columns of the frontier's stripe are missing.
-pub fn rebuild_losses() -> u8
+pub fn rebuild_losses()
     ensures stands { RebuildLosses }
-{
-    0
-}
+{}

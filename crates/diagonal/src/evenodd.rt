@@ -1,12 +1,11 @@
 // EVENODD: the diagonals run over the data columns alone, and the one that no row of Q stands for is added to all others.
-ghost use Rattle.std.specs.Prelude.{◌≡◌, ℕ};
-ghost use Rattle.std.proofs.Common.{subst};
-ghost use Rattle.prime.specs.Diagonals.{evenodd as even_odd, evenodd};
-ghost use Rattle.code.specs.Codes.{Lawful};
+ghost use Rattle.std.specs.Prelude.{◌≡◌};
+ghost use Rattle.prime.specs.Diagonals.{evenodd as even_odd};
 ghost use Rattle.prime.proofs.Laws.{evenodd_lawful};
-ghost use Rattle.diagonal.specs.Facts.{sizes_of};
+ghost use Rattle.diagonal.specs.Facts.{lawful_of, sizes_of};
 
 use crate::Grid;
+use code::checks::{check_column, check_pair};
 use code::{BLOCK, Code, CodeRefusal};
 
 // EVENODD over a prime, for as many data columns as the prime.
@@ -22,7 +21,7 @@ impl EvenOdd {
         ensures width { result.grid.width ≡ 32 }
     {
         EvenOdd {
-            grid: Grid::new(17, 32),
+            grid: Grid::of_17(),
         }
     }
 }
@@ -32,7 +31,7 @@ impl Code for EvenOdd {
 
     ghost lawful = { λ c.
         let g = c.grid in
-        subst (λ (n : ℕ). Lawful n (evenodd g.prime g.width)) g.whole (evenodd_lawful g.prime g.indivisible g.width (sizes_of g).wide g.odd) };
+        lawful_of g (evenodd_lawful g.prime g.indivisible g.width (sizes_of g).wide g.odd) };
 
     // The prime.
     fn limit(&self) -> usize {
@@ -41,12 +40,9 @@ impl Code for EvenOdd {
 
     // Adds the block shifted by column `j`, and to every row the adjuster, its row on the missing diagonal.
     fn mix_into(&self, j: usize, block: &[u8], into: &mut [u8]) -> Result<(), CodeRefusal> {
-        if block.len() != BLOCK || into.len() != BLOCK {
-            return Err(CodeRefusal::Length);
-        }
-        if j >= self.limit() {
-            return Err(CodeRefusal::Column);
-        }
+        let block = block.as_array::<BLOCK>().ok_or(CodeRefusal::Length)?;
+        let into = into.as_mut_array::<BLOCK>().ok_or(CodeRefusal::Length)?;
+        check_column(self.limit(), j)?;
         let grid = self.grid;
         grid.add_shifted(grid.fold(grid.prime - j), block, into);
         grid.add_row_everywhere(grid.prime - 1 - j, block, into);
@@ -55,28 +51,20 @@ impl Code for EvenOdd {
 
     // Shifts back; the row that then stands at row `prime - 1`, which is to be zeros, is the adjuster.
     fn unmix(&self, j: usize, buffer: &mut [u8]) -> Result<(), CodeRefusal> {
-        if buffer.len() != BLOCK {
-            return Err(CodeRefusal::Length);
-        }
-        if j >= self.limit() {
-            return Err(CodeRefusal::Column);
-        }
+        let buffer = buffer.as_mut_array::<BLOCK>().ok_or(CodeRefusal::Length)?;
+        check_column(self.limit(), j)?;
         let grid = self.grid;
         let mut solved = [0u8; BLOCK];
         grid.add_shifted(j, buffer, &mut solved);
         grid.add_row_everywhere(grid.fold(grid.prime - 1 + j), buffer, &mut solved);
-        buffer.copy_from_slice(&solved);
+        *buffer = solved;
         Ok(())
     }
 
     // Takes the adjuster of both columns off, then solves their shifts.
     fn unpair(&self, i: usize, j: usize, buffer: &mut [u8]) -> Result<(), CodeRefusal> {
-        if buffer.len() != BLOCK {
-            return Err(CodeRefusal::Length);
-        }
-        if i >= self.limit() || j >= self.limit() || i == j {
-            return Err(CodeRefusal::Column);
-        }
+        let buffer = buffer.as_mut_array::<BLOCK>().ok_or(CodeRefusal::Length)?;
+        check_pair(self.limit(), i, j)?;
         let grid = self.grid;
         grid.unadjust(buffer);
         grid.solve_pair(grid.prime - i, grid.prime - j, buffer);

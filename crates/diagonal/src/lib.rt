@@ -12,6 +12,7 @@ ghost use Rattle.prime.specs.Diagonals.{closed, unadjusted_block, unpaired_block
 use code::BLOCK;
 use code::xor::xor_run;
 
+// Two types, and not one with a parameter: each method of the one differs from the other's by more than a size or a constant.
 pub mod evenodd;
 pub mod rdp;
 
@@ -38,6 +39,14 @@ impl Grid {
         ensures width { result.width ≡ width }
     {
         Grid { prime, width }
+    }
+
+    // The prime 17, with rows of 32 bytes.
+    fn of_17() -> Grid
+        ensures prime { result.prime ≡ 17 }
+        ensures width { result.width ≡ 32 }
+    {
+        Grid::new(17, 32)
     }
 
     // Brings a row number below twice the prime back below the prime. No other place wraps a row number.
@@ -69,10 +78,8 @@ impl Grid {
 
     // Adds to `into` the block whose row r is row r + s of `block`.
     // Since the rows lie one after another, that is two long runs: from row s on to the start, and below row s - 1 to the end.
-    fn add_shifted(&self, s: usize, block: &[u8], into: &mut [u8])
+    fn add_shifted(&self, s: usize, block: &[u8; BLOCK], into: &mut [u8; BLOCK])
         requires shift { s < self.now.prime }
-        requires sized { length block.now ≡ 512 }
-        requires room { length into.old ≡ 512 }
         ensures after { into.new ≡ into.old ⊕ shifted self.now.prime self.now.width s block.now }
     {
         let from = s * self.width;
@@ -81,27 +88,21 @@ impl Grid {
         xor_run(&block[0..rest], &mut into[BLOCK - rest..BLOCK]);
     }
 
-    // A block whose every row is `row`: what is filled so far is copied behind itself, so that the copies are few and long.
+    // A block whose every row is `row`.
     fn repeat(&self, row: &[u8]) -> [u8; BLOCK]
         requires sized { length row.now ≡ self.now.width }
         ensures value { result ≡ repeated self.now.prime self.now.width row.now }
     {
         let mut block = [0u8; BLOCK];
-        self.put_row(0, row, &mut block);
-        let mut done = self.width;
-        while done < BLOCK {
-            let more = done.min(BLOCK - done);
-            block.copy_within(0..more, done);
-            done += more;
+        for k in 0..self.prime - 1 {
+            self.put_row(k, row, &mut block);
         }
         block
     }
 
     // Adds row `r` of `source` to every row of `into`; row `prime - 1` is zeros, and adds nothing.
-    fn add_row_everywhere(&self, r: usize, source: &[u8], into: &mut [u8])
+    fn add_row_everywhere(&self, r: usize, source: &[u8; BLOCK], into: &mut [u8; BLOCK])
         requires row { r < self.now.prime }
-        requires sized { length source.now ≡ 512 }
-        requires room { length into.old ≡ 512 }
         ensures after { into.new ≡ into.old ⊕ everywhere self.now.prime self.now.width r source.now }
     {
         if r < self.prime - 1 {
@@ -110,18 +111,16 @@ impl Grid {
     }
 
     // Adds every row of `block` to the first row of `into`; further bytes of `into` stay.
-    fn sum_rows(&self, block: &[u8], into: &mut [u8])
-        requires sized { length block.now ≡ 512 }
+    fn sum_rows(&self, block: &[u8; BLOCK], into: &mut [u8])
         ensures after { into.new ≡ onto into.old (row_sums self.now.width block.now (self.now.prime - 1)) }
     {
-        for r in 0..self.prime - 1 {
-            xor_run(self.row(r, block), into);
+        for row in block.chunks_exact(self.width) {
+            xor_run(row, into);
         }
     }
 
     // Adds the sum of all rows of `buffer` to each of its rows.
-    fn unadjust(&self, buffer: &mut [u8])
-        requires sized { length buffer.old ≡ 512 }
+    fn unadjust(&self, buffer: &mut [u8; BLOCK])
         ensures after { buffer.new ≡ unadjusted_block self.now.prime self.now.width buffer.old }
     {
         let mut sum = [0u8; BLOCK];
@@ -130,8 +129,7 @@ impl Grid {
     }
 
     // The rows of `block` and, as row `prime - 1`, their sum; what lies behind that row plays no part.
-    fn close(&self, block: &[u8]) -> [u8; CLOSED]
-        requires sized { length block.now ≡ 512 }
+    fn close(&self, block: &[u8; BLOCK]) -> [u8; CLOSED]
         ensures long { length result ≡ 1024 }
         ensures cells { (r t : ℕ) → r < self.now.prime → t < self.now.width → cell self.now.width result r t ≡ closed self.now.prime (λ k. cell self.now.width block.now k t) r }
     {
@@ -146,8 +144,7 @@ impl Grid {
     // Replaces `buffer` by the block whose shifts by `u` and by `v` add up to it.
     // Two rows of that block, v - u apart, add up to one row of the closed buffer. So a walk in steps of v - u from row `prime - 1`,
     // which is zeros, meets every row once, as the prime has no divisor, and what it has added up is the row that it stands at.
-    fn solve_pair(&self, u: usize, v: usize, buffer: &mut [u8])
-        requires sized { length buffer.old ≡ 512 }
+    fn solve_pair(&self, u: usize, v: usize, buffer: &mut [u8; BLOCK])
         requires some { 0 < u }
         requires low { u ≤ self.now.prime }
         requires other { v ≤ self.now.prime }

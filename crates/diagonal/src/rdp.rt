@@ -1,12 +1,11 @@
 // Row-diagonal parity: the diagonals run over the data columns and P.
-ghost use Rattle.std.specs.Prelude.{◌≡◌, ℕ};
-ghost use Rattle.std.proofs.Common.{subst};
-ghost use Rattle.prime.specs.Diagonals.{rdp as row_diagonal, rdp};
-ghost use Rattle.code.specs.Codes.{Lawful};
+ghost use Rattle.std.specs.Prelude.{◌≡◌};
+ghost use Rattle.prime.specs.Diagonals.{rdp as row_diagonal};
 ghost use Rattle.prime.proofs.Laws.{rdp_lawful};
-ghost use Rattle.diagonal.specs.Facts.{sizes_of};
+ghost use Rattle.diagonal.specs.Facts.{lawful_of, sizes_of};
 
 use crate::Grid;
+use code::checks::{check_column, check_pair};
 use code::{BLOCK, Code, CodeRefusal};
 
 // Row-diagonal parity over a prime, for one data column less than the prime.
@@ -22,7 +21,7 @@ impl Rdp {
         ensures width { result.grid.width ≡ 32 }
     {
         Rdp {
-            grid: Grid::new(17, 32),
+            grid: Grid::of_17(),
         }
     }
 }
@@ -32,7 +31,7 @@ impl Code for Rdp {
 
     ghost lawful = { λ c.
         let g = c.grid in
-        subst (λ (n : ℕ). Lawful n (rdp g.prime g.width)) g.whole (rdp_lawful g.prime g.indivisible g.width (sizes_of g).wide) };
+        lawful_of g (rdp_lawful g.prime g.indivisible g.width (sizes_of g).wide) };
 
     // One less than the prime.
     fn limit(&self) -> usize {
@@ -41,12 +40,9 @@ impl Code for Rdp {
 
     // Adds the block shifted by column `j`, and the block shifted by one row, its share of the diagonals through P.
     fn mix_into(&self, j: usize, block: &[u8], into: &mut [u8]) -> Result<(), CodeRefusal> {
-        if block.len() != BLOCK || into.len() != BLOCK {
-            return Err(CodeRefusal::Length);
-        }
-        if j >= self.limit() {
-            return Err(CodeRefusal::Column);
-        }
+        let block = block.as_array::<BLOCK>().ok_or(CodeRefusal::Length)?;
+        let into = into.as_mut_array::<BLOCK>().ok_or(CodeRefusal::Length)?;
+        check_column(self.limit(), j)?;
         let grid = self.grid;
         grid.add_shifted(grid.fold(grid.prime - j), block, into);
         grid.add_shifted(1, block, into);
@@ -55,12 +51,8 @@ impl Code for Rdp {
 
     // Solves the column's shift and P's.
     fn unmix(&self, j: usize, buffer: &mut [u8]) -> Result<(), CodeRefusal> {
-        if buffer.len() != BLOCK {
-            return Err(CodeRefusal::Length);
-        }
-        if j >= self.limit() {
-            return Err(CodeRefusal::Column);
-        }
+        let buffer = buffer.as_mut_array::<BLOCK>().ok_or(CodeRefusal::Length)?;
+        check_column(self.limit(), j)?;
         let grid = self.grid;
         grid.solve_pair(grid.prime - j, 1, buffer);
         Ok(())
@@ -68,12 +60,8 @@ impl Code for Rdp {
 
     // Solves the shifts of both columns; P's shares of the two cancel.
     fn unpair(&self, i: usize, j: usize, buffer: &mut [u8]) -> Result<(), CodeRefusal> {
-        if buffer.len() != BLOCK {
-            return Err(CodeRefusal::Length);
-        }
-        if i >= self.limit() || j >= self.limit() || i == j {
-            return Err(CodeRefusal::Column);
-        }
+        let buffer = buffer.as_mut_array::<BLOCK>().ok_or(CodeRefusal::Length)?;
+        check_pair(self.limit(), i, j)?;
         let grid = self.grid;
         grid.solve_pair(grid.prime - i, grid.prime - j, buffer);
         Ok(())

@@ -4,22 +4,16 @@
 ghost use Rattle.field.specs.Theorems.{Divided, Generated, PqIsLawful};
 
 // A product, each shift reduced, is the product of polynomials modulo 0x11D.
-pub fn product_is_divided() -> u8
+pub fn product_is_divided()
     ensures theorem { Divided }
-{
-    0
-}
+{}
 
 // 2 generates the field: the elements that are not 0 are its 255 powers, each once.
-pub fn two_generates() -> u8
+pub fn two_generates()
     ensures theorem { Generated }
-{
-    0
-}
+{}
 
 // The code P+Q keeps the laws of a code.
-pub fn pq_is_lawful() -> u8
+pub fn pq_is_lawful()
     ensures theorem { PqIsLawful }
-{
-    0
-}
+{}

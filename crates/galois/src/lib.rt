@@ -7,6 +7,7 @@ ghost use Rattle.field.specs.Mixing.{pq};
 ghost use Rattle.code.specs.Blocks.{block_size};
 ghost use Rattle.field.proofs.Laws.{pq_lawful};
 
+use code::checks::{check_column, check_pair};
 use code::{BLOCK, Code, CodeRefusal};
 use scaling::{add_scaled, scale};
 use tables::{logs, powers};
@@ -64,35 +65,24 @@ impl Code for Pq {
     }
 
     fn mix_into(&self, j: usize, block: &[u8], into: &mut [u8]) -> Result<(), CodeRefusal> {
-        if block.len() != BLOCK || into.len() != BLOCK {
-            return Err(CodeRefusal::Length);
-        }
-        if j >= LIMIT {
-            return Err(CodeRefusal::Column);
-        }
+        let block = block.as_array::<BLOCK>().ok_or(CodeRefusal::Length)?;
+        let into = into.as_mut_array::<BLOCK>().ok_or(CodeRefusal::Length)?;
+        check_column(LIMIT, j)?;
         add_scaled(power_of(j), block, into);
         Ok(())
     }
 
     fn unmix(&self, j: usize, buffer: &mut [u8]) -> Result<(), CodeRefusal> {
-        if buffer.len() != BLOCK {
-            return Err(CodeRefusal::Length);
-        }
-        if j >= LIMIT {
-            return Err(CodeRefusal::Column);
-        }
+        let buffer = buffer.as_mut_array::<BLOCK>().ok_or(CodeRefusal::Length)?;
+        check_column(LIMIT, j)?;
         // 2 to the power 255 is 1, so the power 255 - j undoes the power j.
         scale(power_of(255 - j), buffer);
         Ok(())
     }
 
     fn unpair(&self, i: usize, j: usize, buffer: &mut [u8]) -> Result<(), CodeRefusal> {
-        if buffer.len() != BLOCK {
-            return Err(CodeRefusal::Length);
-        }
-        if i >= LIMIT || j >= LIMIT || i == j {
-            return Err(CodeRefusal::Column);
-        }
+        let buffer = buffer.as_mut_array::<BLOCK>().ok_or(CodeRefusal::Length)?;
+        check_pair(LIMIT, i, j)?;
         scale(inverse_of(power_of(i) ^ power_of(j)), buffer);
         Ok(())
     }

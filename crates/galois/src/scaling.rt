@@ -1,8 +1,10 @@
 // Blocks times an element of the field, by terms: a vector of bytes at a time, with no table and no branch.
-ghost use Rattle.std.specs.Prelude.{◌≡◌, ◌/◌, ◌%◌, ◌^◌, ◌<◌, map};
-ghost use Rattle.code.specs.Blocks.{onto};
-ghost use Rattle.field.specs.Field.{shifted, chosen, times};
+ghost use Rattle.std.specs.Prelude.{◌≡◌, map};
+ghost use Rattle.code.specs.Blocks.{◌⊕◌};
+ghost use Rattle.field.specs.Field.{shifted, times};
 ghost use Rattle.field.specs.Terms.{shifts, summed};
+
+use code::BLOCK;
 
 // 2 times an element.
 fn doubled(a: u8) -> u8
@@ -15,52 +17,45 @@ fn doubled(a: u8) -> u8
 fn terms(a: u8) -> [u8; 8]
     ensures value { result ≡ shifts 8 a }
 {
-    let mut t = [a; 8];
-    for i in 1..8 {
-        t[i] = doubled(t[i - 1]);
+    let mut t = [0; 8];
+    let mut next = a;
+    for term in t.iter_mut() {
+        *term = next;
+        next = doubled(next);
     }
     t
 }
 
-// The term where the digit i of `b` is 1, else 0.
-fn digit_times(b: u8, i: u32, term: u8) -> u8
-    requires place { i < 8 }
-    ensures value { result ≡ chosen (b / 2 ^ i % 2) term }
-{
-    (b >> i & 1) * term
-}
-
-// The element that has these terms, times `b`.
+// The element that has these terms, times `b`: the terms where the digit of `b` is 1, added up.
 fn scaled(t: &[u8; 8], b: u8) -> u8
     ensures value { result ≡ summed t.now b }
 {
-    digit_times(b, 0, t[0])
-        ^ digit_times(b, 1, t[1])
-        ^ digit_times(b, 2, t[2])
-        ^ digit_times(b, 3, t[3])
-        ^ digit_times(b, 4, t[4])
-        ^ digit_times(b, 5, t[5])
-        ^ digit_times(b, 6, t[6])
-        ^ digit_times(b, 7, t[7])
+    let mut sum = 0;
+    let mut digits = b;
+    for term in t {
+        sum ^= (digits & 1) * term;
+        digits >>= 1;
+    }
+    sum
 }
 
-// Adds `a` times the bytes of `block` to the first bytes of `into`; where either is longer, its further bytes play no part.
-pub(crate) fn add_scaled(a: u8, block: &[u8], into: &mut [u8])
-    ensures after { into.new ≡ onto into.old (map (times a) block.now) }
+// Adds `a` times the bytes of `block` to `into`.
+pub(crate) fn add_scaled(a: u8, block: &[u8; BLOCK], into: &mut [u8; BLOCK])
+    ensures after { into.new ≡ into.old ⊕ map (times a) block.now }
 {
     let t = terms(a);
-    let n = into.len().min(block.len());
-    for i in 0..n {
+    // By index, as in `code::xor::xor_run`, and for the same reason.
+    for i in 0..BLOCK {
         into[i] ^= scaled(&t, block[i]);
     }
 }
 
 // Multiplies each byte of `buffer` by `a`.
-pub(crate) fn scale(a: u8, buffer: &mut [u8])
+pub(crate) fn scale(a: u8, buffer: &mut [u8; BLOCK])
     ensures after { buffer.new ≡ map (times a) buffer.old }
 {
     let t = terms(a);
-    for i in 0..buffer.len() {
-        buffer[i] = scaled(&t, buffer[i]);
+    for x in buffer.iter_mut() {
+        *x = scaled(&t, *x);
     }
 }

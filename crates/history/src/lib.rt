@@ -5,27 +5,21 @@
 ghost use Rattle.history.specs.History.{EveryRun, KeptFromFormat, KeptByCalls, KeptIsRoomy, CanFormat, SomeFormatted, AlwaysAnswers, EveryCalls};
 
 // Every run of calls keeps the whole promise: reads hand out the last taken write, losses are real and named.
-pub fn every_run() -> u8
+pub fn every_run()
     ensures stands { EveryRun }
-{
-    0
-}
+{}
 
 // The promise holds from the format on, and each further call keeps it.
-pub fn kept() -> u8
+pub fn kept()
     ensures format { KeptFromFormat }
     ensures calls { KeptByCalls }
     ensures roomy { KeptIsRoomy }
-{
-    0
-}
+{}
 
 // A volume of every shape can be formatted, and every call on it has an answer, so that there is a history of any calls.
-pub fn answerable() -> u8
+pub fn answerable()
     ensures format { CanFormat }
     ensures some { SomeFormatted }
     ensures always { AlwaysAnswers }
     ensures calls { EveryCalls }
-{
-    0
-}
+{}

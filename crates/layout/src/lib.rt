@@ -59,6 +59,7 @@ impl Layout for Rotating {
             return c;
         }
         let turn = s % n;
+        // Two branches and no `(c + turn) % n`: of the largest `n`, that sum need not fit.
         if c < n - turn {
             c + turn
         } else {

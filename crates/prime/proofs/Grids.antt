@@ -20,13 +20,13 @@ module _ (p w : ℕ) (wide : 0 < w) where
   unfolding rows
   length_rows f = length-map-range_with_len (λ n. f (n / w) (n % w)) 0 ((p - 1) * w)
 
-  pub get_d_rows : (f : ℕ → ℕ → ℕ) (n : ℕ) → n < (p - 1) * w → get_or (rows p w f) n 0 ≡ f (n / w) (n % w)
+  pub get_or_rows : (f : ℕ → ℕ → ℕ) (n : ℕ) → n < (p - 1) * w → get_or (rows p w f) n 0 ≡ f (n / w) (n % w)
   unfolding rows
-  get_d_rows f n h = get_or-map-range_with_len (λ n. f (n / w) (n % w)) 0 ((p - 1) * w) n n 0 h (omega arith)
+  get_or_rows f n h = get_or-map-range_with_len (λ n. f (n / w) (n % w)) 0 ((p - 1) * w) n n 0 h (omega arith)
 
   pub cell_rows : (f : ℕ → ℕ → ℕ) (r t : ℕ) → r < p - 1 → t < w → cell w (rows p w f) r t ≡ f r t
   cell_rows f r t h l =
-      get_d_rows f (r * w + t) (omega (arith, mul-add-lt r w t (p - 1) h l)) ∙ rw (div-mul-add r w t l, mod-mul-add r w t l)
+      get_or_rows f (r * w + t) (omega (arith, mul-add-lt r w t (p - 1) h l)) ∙ rw (div-mul-add r w t l, mod-mul-add r w t l)
 
   -- row p − 1 is zeros
   pub cell_top : (b : List ℕ) (t : ℕ) → length b ≡ (p - 1) * w → cell w b (p - 1) t ≡ 0
@@ -54,7 +54,7 @@ module _ (p w : ℕ) (wide : 0 < w) where
   bytes_rows f h = record {
     long = length_rows f;
     bytes = λ k. elim (cases_lt k ((p - 1) * w)) [
-      | inl l ↦ rw (get_d_rows f k l) (h (k / w) (k % w))
+      | inl l ↦ rw (get_or_rows f k l) (h (k / w) (k % w))
       | inr l ↦ rw (get_or_past (rows p w f) k 0 (omega (arith, length_rows f))) (omega arith)
     ];
   }

@@ -3,9 +3,7 @@
 
 ghost use Rattle.prime.specs.Diagonals.{DiagonalCodesAreLawful};
 
-// States that RDP and EVENODD keep the laws of a code over every odd prime; the answer itself says nothing.
-pub fn diagonal_codes_are_lawful() -> u8
+// RDP and EVENODD keep the laws of a code over every odd prime.
+pub fn diagonal_codes_are_lawful()
     ensures lawful { DiagonalCodesAreLawful }
-{
-    0
-}
+{}

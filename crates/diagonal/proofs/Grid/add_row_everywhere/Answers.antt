@@ -14,10 +14,10 @@ repeat-requires c = record {
 pub returns-then-r-self : goal.returns-then-r-self
 returns-then-r-self c = record {
   after = row_everywhere c.args.self.now.prime c.args.self.now.width 512 (sizes_of c.args.self.now) c.args.r c.args.source.now c.row.result.now c.repeat.result c.args.into.now c.xor_run.new.into
-      c.requires.room c.row.ensures.value c.repeat.ensures.value c.xor_run.ensures.after;
+      c.told-into c.row.ensures.value c.repeat.ensures.value c.xor_run.ensures.after;
 }
 
 pub returns-else-r-self : goal.returns-else-r-self
 returns-else-r-self c = record {
-  after = no_row_everywhere c.args.self.now.prime c.args.self.now.width 512 (sizes_of c.args.self.now) c.args.r c.args.source.now c.args.into.now c.requires.sized c.requires.room c.if-r-self.false;
+  after = no_row_everywhere c.args.self.now.prime c.args.self.now.width 512 (sizes_of c.args.self.now) c.args.r c.args.source.now c.args.into.now c.told-source c.told-into c.if-r-self.false;
 }

@@ -16,5 +16,5 @@ pub returns : goal.returns
 returns c = record {
   long = c.put_row.auto.block ∙ c.xor_run.auto.into;
   cells = closes c.args.self.now.prime c.args.self.now.width 512 1024 (sizes_of c.args.self.now) c.args.block.now (replicate 512 0) c.sum_rows.new.into c.row.result.now (replicate 1024 0) c.xor_run.new.into c.put_row.new.block
-      c.requires.sized refl (byte_of_zeros 512) refl (byte_of_zeros 1024) (omega (arith, (sizes_of c.args.self.now).short)) c.sum_rows.ensures.after c.row.ensures.value c.xor_run.ensures.after c.put_row.ensures.after;
+      c.told-block refl (byte_of_zeros 512) refl (byte_of_zeros 1024) (omega (arith, (sizes_of c.args.self.now).short)) c.sum_rows.ensures.after c.row.ensures.value c.xor_run.ensures.after c.put_row.ensures.after;
 }

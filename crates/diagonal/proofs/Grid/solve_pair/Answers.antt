@@ -13,7 +13,7 @@ overflow_add-self c = omega (arith, (sizes_of c.args.self.now).low)
 pub loop-m-init : goal.loop-m-init
 loop-m-init c =
     let g = c.args.self.now in
-    walked_none (sizes_of g) (stride g.prime g.indivisible c.args.u c.args.v c.fold-step.result c.requires.low c.requires.apart c.fold-step.ensures.value) c.args.buffer.now c.args.buffer.now (replicate 512 0) c.fold-r.result c.requires.sized refl (byte_of_zeros 512)
+    walked_none (sizes_of g) (stride g.prime g.indivisible c.args.u c.args.v c.fold-step.result c.requires.low c.requires.apart c.fold-step.ensures.value) c.args.buffer.now c.args.buffer.now (replicate 512 0) c.fold-r.result c.told-buffer refl (byte_of_zeros 512)
     (first_row g.prime g.indivisible.0 c.args.u c.fold-step.result c.fold-r.result c.requires.low c.fold-r.ensures.value)
 
 pub row-requires : goal.row-requires

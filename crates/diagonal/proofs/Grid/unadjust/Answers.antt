@@ -14,5 +14,5 @@ repeat-requires c = record {
 pub returns : goal.returns
 returns c = record {
   after = sum_everywhere c.args.self.now.prime c.args.self.now.width 512 (sizes_of c.args.self.now) c.args.buffer.now (replicate 512 0) c.sum_rows.new.into c.row.result.now c.repeat.result c.xor_run.new.into
-      c.requires.sized refl (byte_of_zeros 512) c.sum_rows.ensures.after c.row.ensures.value c.repeat.ensures.value c.xor_run.ensures.after;
+      c.told-buffer refl (byte_of_zeros 512) c.sum_rows.ensures.after c.row.ensures.value c.repeat.ensures.value c.xor_run.ensures.after;
 }

@@ -1,20 +1,13 @@
-use Rattle.std.proofs.Common.{map, ap, ◌∙◌, arith, rules}
-use lib.ListN.{length-map}
+use Rattle.std.proofs.Common.{◌≡◌, map, ap, ◌∙◌, ap₂, rules}
 use Rattle.code.specs.Blocks.{◌⊕◌}
-use Rattle.code.proofs.Blocks.{onto_same}
 use Rattle.field.specs.Field.{times}
 use Rattle.field.specs.Mixing.{mixed}
 use Rattle.galois.proofs.PqCode.mix_into.Goals as goal
 
-pub returns : goal.returns
+pub returns-clause-after : goal.returns-clause-after
 unfolding mixed
-returns c =
-    let into = c.args.into.now in
-    let block = c.args.block.now in
-    let f = times c.power_of.result in
-    record {
-      answered = search rules;
-      after =
-          c.add_scaled.ensures.after ∙ onto_same into (map f block) (omega (arith, length-map block f))
-          ∙ ap (λ x. into ⊕ map (times x) block) c.power_of.ensures.value;
-    }
+returns-clause-after c =
+    let block : c.in_ok-block.block.now ≡ c.args.block.now = search (rules, c.as_array.ensures.cases, c.in_ok-block.ensures.ok_part) in
+    let into : c.in_ok-into.into.now ≡ c.args.into.now = search (rules, c.as_mut_array.ensures.cases, c.in_ok-into.ensures.ok_part) in
+    c.add_scaled.ensures.after ∙ ap₂ ◌⊕◌ into (ap (map (times c.power_of.result)) block)
+    ∙ ap (λ x. c.args.into.now ⊕ map (times x) c.args.block.now) c.power_of.ensures.value

@@ -1,6 +1,7 @@
-use Rattle.std.proofs.Common.{◌≡◌, map, get_or, sym, ap, ◌∙◌, ap₂, arith}
+use Rattle.std.proofs.Common.{◌≡◌, length, map, get_or, sym, ap, ◌∙◌, ap₂, arith}
 use lib.Bits.{bit_xor}
 use lib.ListN.{length-map}
+use Rattle.code.proofs.Blocks.{onto_same}
 use Rattle.code.proofs.Loops.{half_more, half_onto}
 use Rattle.field.specs.Field.{times}
 use Rattle.field.specs.Terms.{summed}
@@ -19,7 +20,8 @@ loop-i-preserved c =
 
 pub returns : goal.returns
 returns c =
-    let f = times c.args.a in
+    let b = map (times c.args.a) c.args.block.now in
+    let long : length b ≡ 512 = length-map c.args.block.now (times c.args.a) ∙ c.told-block in
     record {
-      after = half_onto c.args.into.now (map f c.args.block.now) c.loop-i.into c.loop-i.i (omega (arith, length-map c.args.block.now f)) c.loop-i.invariant;
+      after = half_onto c.args.into.now b c.loop-i.into c.loop-i.i (omega (arith, c.told-into)) c.loop-i.invariant ∙ onto_same c.args.into.now b (omega (arith, c.told-into));
     }
