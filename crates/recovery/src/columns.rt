@@ -1,6 +1,6 @@
 // Recovery of one column of a stripe whose columns are all at hand.
 ghost use Rattle.std.specs.Prelude.{◌≡◌, ℕ, ◌+◌, ◌-◌, ◌≤◌, true, false, List, length, is_ok, is_some, if◌then◌else◌};
-ghost use Rattle.code.specs.Blocks.{block_size, zeros};
+ghost use Rattle.code.specs.Blocks.{zeros};
 ghost use Rattle.code.specs.Answers.{answer, sized};
 ghost use Rattle.parity.specs.Stripe.{Content, Fits, column, gaps, missing, plain_sum, mixed_sum};
 ghost use Rattle.parity.specs.Ways.{takes_plain, takes_mixed, recovered};
@@ -41,8 +41,8 @@ fn gather<C: Code>(
     way: Way,
     k: usize,
     columns: &[Option<&[u8; BLOCK]>],
-    plain: &mut [u8],
-    mixed: &mut [u8],
+    plain: &mut [u8; BLOCK],
+    mixed: &mut [u8; BLOCK],
 ) -> Result<(), CodeRefusal>
     requires shape { (k ≤ (C.Code.coding code.now).limit) × (length columns.now ≡ k + 2) }
     requires empty { (plain.old ≡ zeros) × (mixed.old ≡ zeros) }
@@ -64,10 +64,9 @@ fn recover_missing<C: Code>(
     k: usize,
     columns: &[Option<&[u8; BLOCK]>],
     want: usize,
-    into: &mut [u8],
+    into: &mut [u8; BLOCK],
 ) -> Result<(), CodeRefusal>
     requires shape { (k ≤ (C.Code.coding code.now).limit) × (length columns.now ≡ k + 2) }
-    requires size { length into.old ≡ block_size }
     requires gone { is_some (columns_of columns.now want) ≡ false }
     ensures answered { answer result ≡ 0 }
     ensures value { into.new ≡ recovered (C.Code.coding code.now) k (columns_of columns.now) want }
@@ -97,9 +96,7 @@ pub fn recover<C: Code>(
     ensures value { into.new ≡ (if is_ok result then recovered (C.Code.coding code.now) (length columns.now - 2) (columns_of columns.now) want else into.old) }
     ensures right { is_ok result ≡ true → (c : ℕ → List ℕ) → Content (length columns.now - 2) c → Fits (C.Code.coding code.now) (length columns.now - 2) c (columns_of columns.now) → into.new ≡ column (C.Code.coding code.now) (length columns.now - 2) c want }
 {
-    if into.len() != BLOCK {
-        return Err(StripeRefusal::Length);
-    }
+    let into = into.as_mut_array::<BLOCK>().ok_or(StripeRefusal::Length)?;
     if !is_shaped(code.limit(), columns.len(), want) {
         return Err(StripeRefusal::Column);
     }

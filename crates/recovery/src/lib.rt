@@ -2,8 +2,10 @@
 // `loss`, `sums` and `ways` are the pieces for a caller that has the columns one at a time.
 #![tactic(auto)]
 
-ghost use Rattle.std.specs.Prelude.{◌≡◌, length};
-ghost use Rattle.code.specs.Blocks.{block_size, zeros};
+ghost use Rattle.std.specs.Prelude.{◌≡◌};
+ghost use Rattle.code.specs.Blocks.{zeros};
+
+use code::BLOCK;
 
 pub mod columns;
 pub mod loss;
@@ -13,8 +15,7 @@ pub mod sums;
 pub mod ways;
 
 // Makes a buffer zeros, where a sum begins.
-fn clear(buffer: &mut [u8])
-    requires len { length buffer.old ≡ block_size }
+fn clear(buffer: &mut [u8; BLOCK])
     ensures after { buffer.new ≡ zeros }
 {
     buffer.fill(0);

@@ -24,9 +24,9 @@ pub fn change<C: Code>(
     ensures q { q.new ≡ (if is_ok result then (q.old ⊕ (C.Code.coding code.now).mix i difference.now) else q.old) }
     ensures right { is_ok result ≡ true → (k : ℕ) (c : ℕ → List ℕ) (v : List ℕ) → Changes (C.Code.coding code.now) k c i v difference.now p.old q.old → Parities (C.Code.coding code.now) k (put c i v) p.new q.new }
 {
-    if difference.len() != BLOCK || p.len() != BLOCK || q.len() != BLOCK {
-        return Err(CodeRefusal::Length);
-    }
+    let difference = difference.as_array::<BLOCK>().ok_or(CodeRefusal::Length)?;
+    let p = p.as_mut_array::<BLOCK>().ok_or(CodeRefusal::Length)?;
+    let q = q.as_mut_array::<BLOCK>().ok_or(CodeRefusal::Length)?;
     code.mix_into(i, difference, q)?;
     xor_run(difference, p);
     Ok(())
@@ -36,8 +36,8 @@ pub fn change<C: Code>(
 fn add_all<C: Code>(
     code: &C,
     data: &[[u8; BLOCK]],
-    p: &mut [u8],
-    q: &mut [u8],
+    p: &mut [u8; BLOCK],
+    q: &mut [u8; BLOCK],
 ) -> Result<(), CodeRefusal>
     requires limit { length «data».now ≤ (C.Code.coding code.now).limit }
     requires p { p.old ≡ zeros }
@@ -63,9 +63,8 @@ pub fn encode<C: Code>(
     ensures p { p.new ≡ (if is_ok result then column (C.Code.coding code.now) (length «data».now) (content «data».now) (length «data».now) else p.old) }
     ensures q { q.new ≡ (if is_ok result then column (C.Code.coding code.now) (length «data».now) (content «data».now) (length «data».now + 1) else q.old) }
 {
-    if p.len() != BLOCK || q.len() != BLOCK {
-        return Err(StripeRefusal::Length);
-    }
+    let p = p.as_mut_array::<BLOCK>().ok_or(StripeRefusal::Length)?;
+    let q = q.as_mut_array::<BLOCK>().ok_or(StripeRefusal::Length)?;
     if data.len() > code.limit() {
         return Err(StripeRefusal::Column);
     }

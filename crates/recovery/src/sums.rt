@@ -1,8 +1,8 @@
 // The plain sum and the mixed sum of a stripe's present columns, one column at a time.
-// The way, the number of data columns and both sums stay parameters: a struct that holds a `&mut` can have no ghost field, so each of its
-// methods would still ask for the sizes, and promise besides that it keeps both references.
-ghost use Rattle.std.specs.Prelude.{◌≡◌, ◌<◌, ◌&&◌, length, is_ok, if◌then◌else◌};
-ghost use Rattle.code.specs.Blocks.{◌⊕◌, block_size};
+// The way, the number of data columns and both sums stay parameters: the public functions take slices of any length and refuse a wrong one, so a
+// struct of the sums could be made only inside them, and each of its methods would promise besides that it keeps both references.
+ghost use Rattle.std.specs.Prelude.{◌≡◌, ◌<◌, ◌&&◌, is_ok, if◌then◌else◌};
+ghost use Rattle.code.specs.Blocks.{◌⊕◌};
 ghost use Rattle.code.specs.Answers.{answer, sized};
 ghost use Rattle.parity.specs.Stripe.{plain_part, mixed_part};
 ghost use Rattle.parity.specs.Ways.{takes_plain, takes_mixed};
@@ -27,9 +27,7 @@ pub fn takes_mixed(way: Way) -> bool
 }
 
 // Adds column `t` with the bytes `block` to the plain sum, if the way needs it.
-fn add_plain(way: Way, k: usize, t: usize, block: &[u8], plain: &mut [u8])
-    requires block { length block.now ≡ block_size }
-    requires plain { length plain.old ≡ block_size }
+fn add_plain(way: Way, k: usize, t: usize, block: &[u8; BLOCK], plain: &mut [u8; BLOCK])
     ensures after { plain.new ≡ (if takes_plain way then (plain.old ⊕ plain_part k t block.now) else plain.old) }
 {
     if takes_plain(way) && t <= k {
@@ -43,11 +41,9 @@ fn add_mixed<C: Code>(
     way: Way,
     k: usize,
     t: usize,
-    block: &[u8],
-    mixed: &mut [u8],
+    block: &[u8; BLOCK],
+    mixed: &mut [u8; BLOCK],
 ) -> Result<(), CodeRefusal>
-    requires block { length block.now ≡ block_size }
-    requires mixed { length mixed.old ≡ block_size }
     requires below { t < k → t < (C.Code.coding code.now).limit }
     ensures answered { answer result ≡ 0 }
     ensures after { mixed.new ≡ (if takes_mixed way then (mixed.old ⊕ mixed_part (C.Code.coding code.now) k t block.now) else mixed.old) }
@@ -76,9 +72,9 @@ pub fn add_column<C: Code>(
     ensures plain { plain.new ≡ (if is_ok result && takes_plain way then (plain.old ⊕ plain_part k t block.now) else plain.old) }
     ensures mixed { mixed.new ≡ (if is_ok result && takes_mixed way then (mixed.old ⊕ mixed_part (C.Code.coding code.now) k t block.now) else mixed.old) }
 {
-    if block.len() != BLOCK || plain.len() != BLOCK || mixed.len() != BLOCK {
-        return Err(CodeRefusal::Length);
-    }
+    let block = block.as_array::<BLOCK>().ok_or(CodeRefusal::Length)?;
+    let plain = plain.as_mut_array::<BLOCK>().ok_or(CodeRefusal::Length)?;
+    let mixed = mixed.as_mut_array::<BLOCK>().ok_or(CodeRefusal::Length)?;
     if k > code.limit() || (t > k && t - k > 1) {
         return Err(CodeRefusal::Column);
     }

@@ -1,7 +1,6 @@
 // A lost column from the two sums.
-ghost use Rattle.std.specs.Prelude.{◌≡◌, true, ◌&&◌, length, is_ok, if◌then◌else◌};
+ghost use Rattle.std.specs.Prelude.{◌≡◌, true, ◌&&◌, is_ok, if◌then◌else◌};
 ghost use Rattle.code.specs.Answers.{answer, sized};
-ghost use Rattle.code.specs.Blocks.{block_size};
 ghost use Rattle.parity.specs.Ways.{by_way, left_by};
 ghost use Rattle.recovery.specs.Answers.{on_way};
 
@@ -14,11 +13,9 @@ fn solve_pair<C: Code>(
     code: &C,
     i: usize,
     j: usize,
-    plain: &[u8],
-    mixed: &mut [u8],
+    plain: &[u8; BLOCK],
+    mixed: &mut [u8; BLOCK],
 ) -> Result<(), CodeRefusal>
-    requires plain { length plain.now ≡ block_size }
-    requires mixed { length mixed.old ≡ block_size }
     ensures answered { answer result ≡ on_way (C.Code.coding code.now).limit (Way.Pair i j) true }
     ensures after { mixed.new ≡ (if is_ok result then left_by (C.Code.coding code.now) (Way.Pair i j) plain.now mixed.old else mixed.old) }
 {
@@ -40,9 +37,8 @@ pub fn solve<C: Code>(
     ensures column { plain.new ≡ (if is_ok result then by_way (C.Code.coding code.now) way plain.old mixed.old else plain.old) }
     ensures left { mixed.new ≡ (if is_ok result then left_by (C.Code.coding code.now) way plain.old mixed.old else mixed.old) }
 {
-    if plain.len() != BLOCK || mixed.len() != BLOCK {
-        return Err(CodeRefusal::Length);
-    }
+    let plain = plain.as_mut_array::<BLOCK>().ok_or(CodeRefusal::Length)?;
+    let mixed = mixed.as_mut_array::<BLOCK>().ok_or(CodeRefusal::Length)?;
     match way {
         Way::Plain => return Ok(()),
         Way::Mixed => {}

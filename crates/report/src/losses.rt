@@ -55,6 +55,7 @@ impl<'a, C: Code> WholeStripe<'a, C> {
         requires within { i < length self.now.columns.items }
         ensures made { OnOk result (string_bytes out.new ≡ string_bytes out.old ++ lines_with i (i + 1) (length self.now.columns.items - (i + 1))) }
     {
+        // By index: the numbers of the columns are what is printed.
         for j in i + 1..self.columns.len() {
             push_pair(out, i, j, self.survives(i, j))?;
         }
@@ -65,6 +66,7 @@ impl<'a, C: Code> WholeStripe<'a, C> {
     pub(crate) fn push_pairs(&self, out: &mut String) -> Result<(), AllocError>
         ensures made { OnOk result (string_bytes out.new ≡ string_bytes out.old ++ lines_below (length self.now.columns.items) (length self.now.columns.items)) }
     {
+        // By index, as above: the number of the first column of each pair is printed.
         for i in 0..self.columns.len() {
             self.push_pairs_of(out, i)?;
         }

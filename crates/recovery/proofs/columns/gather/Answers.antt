@@ -1,6 +1,5 @@
-use Rattle.std.proofs.Common.{◌≡◌, get_or, None, ◌∙◌, arith}
+use Rattle.std.proofs.Common.{◌≡◌, length, ap, get_or, None, ◌∙◌, arith}
 use Rattle.code.specs.Answers.{answer}
-use Rattle.code.proofs.Blocks.{length_zeros}
 use Rattle.parity.specs.Stripe.{plain_part, mixed_part}
 use Rattle.parity.specs.Ways.{takes_plain, takes_mixed}
 use Rattle.parity.proofs.Sums.{sum_none}
@@ -10,14 +9,14 @@ use Rattle.recovery.proofs.columns.gather.Goals as goal
 use Rattle.recovery.proofs.columns.gather.Goals.{in-Some+in_ok-add_column, in_default}
 
 pub loop-t-init : goal.loop-t-init
-loop-t-init g c = record { plain = needed_none _ _ _ (sum_none _) c.requires.empty.0; mixed = needed_none _ _ _ (sum_none _) c.requires.empty.1 }
+loop-t-init g c = record { long = (c.told-plain, c.told-mixed); plain = needed_none _ _ _ (sum_none _) c.requires.empty.0; mixed = needed_none _ _ _ (sum_none _) c.requires.empty.1 }
 
 pub returns-in_err-add_column : goal.returns-in_err-add_column
 returns-in_err-add_column g c =
     let z : answer c.add_column.result ≡ 0 =
     c.add_column.ensures.answered
     ∙ stripe_taken _ _ _ _ c.requires.shape.0 (omega (arith, c.requires.shape.1))
-    (good_three _ _ _ (omega arith) (c.loop-t.auto.plain ∙ length_zeros _ c.requires.empty.0) (c.loop-t.auto.mixed ∙ length_zeros _ c.requires.empty.1)) in
+    (good_three _ _ _ (omega arith) c.loop-t.invariant.long.0 c.loop-t.invariant.long.1) in
     absurd (never c.add_column.result _ c.in_err-add_column.was z)
 
 pub loop-t-preserved : goal.loop-t-preserved
@@ -31,11 +30,13 @@ loop-t-preserved g c =
     elim c.match-column.branch [
       | in-Some+in_ok-add_column w ↦
           let added = w.in_ok-add_column.ensures in record {
+            long = (ap length w.plain-is ∙ w.add_column.auto.plain ∙ sums.long.0, ap length w.mixed-is ∙ w.add_column.auto.mixed ∙ sums.long.1);
             plain = needed_step _ _ _ _ _ sums.plain (present_added (takes_plain way) (plain_part k t) o w.in-Some.block c.loop-t.plain w.add_column.new.plain c.match-column.plain w.in-Some.is w.plain-is added.plain);
             mixed = needed_step _ _ _ _ _ sums.mixed (present_added (takes_mixed way) (mixed_part C k t) o w.in-Some.block c.loop-t.mixed w.add_column.new.mixed c.match-column.mixed w.in-Some.is w.mixed-is added.mixed);
           }
       | in_default w ↦ record {
-        plain = needed_step _ _ _ _ _ sums.plain (absent_kept (takes_plain way) (plain_part k t) o c.loop-t.plain c.match-column.plain w.in_default.is (c.loop-t.auto.plain ∙ length_zeros _ c.requires.empty.0) w.plain-is);
-        mixed = needed_step _ _ _ _ _ sums.mixed (absent_kept (takes_mixed way) (mixed_part C k t) o c.loop-t.mixed c.match-column.mixed w.in_default.is (c.loop-t.auto.mixed ∙ length_zeros _ c.requires.empty.1) w.mixed-is);
+        long = (ap length w.plain-is ∙ sums.long.0, ap length w.mixed-is ∙ sums.long.1);
+        plain = needed_step _ _ _ _ _ sums.plain (absent_kept (takes_plain way) (plain_part k t) o c.loop-t.plain c.match-column.plain w.in_default.is sums.long.0 w.plain-is);
+        mixed = needed_step _ _ _ _ _ sums.mixed (absent_kept (takes_mixed way) (mixed_part C k t) o c.loop-t.mixed c.match-column.mixed w.in_default.is sums.long.1 w.mixed-is);
       }
     ]

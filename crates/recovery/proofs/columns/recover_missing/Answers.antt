@@ -1,8 +1,7 @@
-use Rattle.std.proofs.Common.{◌≡◌, true, is_some, is_ok, refl, ap, ◌∙◌}
+use Rattle.std.proofs.Common.{◌≡◌, true, is_some, is_ok, refl, ap, ◌∙◌, arith}
 use Rattle.std.proofs.lemmas.Bool.{cond-true}
 use Rattle.code.specs.Blocks.{zeros}
 use Rattle.code.specs.Answers.{answer}
-use Rattle.code.proofs.Blocks.{length_zeros}
 use Rattle.parity.specs.Stripe.{gaps}
 use Rattle.parity.specs.Ways.{way, by_way}
 use Rattle.recovery.specs.Answers.{named}
@@ -23,7 +22,7 @@ returns g c =
     let w : c.way-way.result ≡ way k (gaps cols k) (is_some (cols k)) c.args.want =
     way_from k c.args.columns.now c.is_some.result c.args.want c.lost_data.result c.way-way.result c.lost_data.ensures.value c.is_some.ensures c.way-way.ensures.value in
     let n : named C.limit c.way-way.result ≡ true = ap (named C.limit) w ∙ way_named C.limit cols k c.requires.shape.0 (gaps cols k) refl (is_some (cols k)) c.args.want in
-    let z : answer c.solve.result ≡ 0 = c.solve.ensures.answered ∙ way_taken C.limit c.way-way.result _ n (good_two c.gather.new.plain c.gather.new.mixed (c.gather.auto.plain ∙ length_zeros _ c.clear.ensures.after) c.gather.auto.mixed) in
+    let z : answer c.solve.result ≡ 0 = c.solve.ensures.answered ∙ way_taken C.limit c.way-way.result _ n (good_two c.gather.new.plain c.gather.new.mixed (omega arith) (omega arith)) in
     record {
       answered = z;
       value = found_is C k cols c.args.want c.way-way.result c.gather.new.plain c.gather.new.mixed c.solve.new.plain c.requires.gone w

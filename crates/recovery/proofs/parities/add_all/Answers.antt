@@ -1,6 +1,5 @@
 use Rattle.std.proofs.Common.{◌≡◌, sym, ◌∙◌, arith}
 use Rattle.code.specs.Answers.{answer}
-use Rattle.code.proofs.Blocks.{length_zeros}
 use Rattle.parity.proofs.Sums.{sum_none, sum_step}
 use Rattle.recovery.proofs.Outcomes.{never, good_three, column_taken}
 use Rattle.recovery.proofs.parities.add_all.Goals as goal
@@ -15,6 +14,5 @@ pub returns-in_err-change : goal.returns-in_err-change
 returns-in_err-change g c =
     let z : answer c.change.result ≡ 0 =
     c.change.ensures.answered
-    ∙ column_taken _ _ _ (omega arith)
-    (good_three _ _ _ (c.told-data _ (omega arith)) (c.loop-j.auto.p ∙ length_zeros _ c.requires.p) (c.loop-j.auto.q ∙ length_zeros _ c.requires.q)) in
+    ∙ column_taken _ _ _ (omega arith) (good_three _ c.loop-j.p c.loop-j.q (c.told-data _ (omega arith)) (omega arith) (omega arith)) in
     absurd (never c.change.result _ c.in_err-change.was z)

@@ -11,11 +11,11 @@ pub returns-then-t-k : goal.returns-then-t-k
 returns-then-t-k c =
     let w : true ≡ takes_plain c.args.way = c.if-takes_plain.ensures.value in
     record {
-      after = c.xor_run.ensures.after ∙ onto_same c.args.plain.now c.args.block.now (omega arith)
+      after = c.xor_run.ensures.after ∙ onto_same c.args.plain.now c.args.block.now (omega (arith, c.told-plain, c.told-block))
           ∙ sym (cond-true _ _ _ (sym w) ∙ ap (λ x. c.args.plain.now ⊕ x) (plain_low c.args.k c.args.t c.args.block.now (omega arith)));
     }
 
 pub returns-else-takes_plain : goal.returns-else-takes_plain
 returns-else-takes_plain c = record {
-  after = rw (← c.takes_plain.ensures.value) (plain_kept c.takes_plain.result c.args.k c.args.t c.args.block.now c.args.plain.now c.requires.plain c.else-takes_plain.either);
+  after = rw (← c.takes_plain.ensures.value) (plain_kept c.takes_plain.result c.args.k c.args.t c.args.block.now c.args.plain.now c.told-plain c.else-takes_plain.either);
 }
