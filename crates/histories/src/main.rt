@@ -8,7 +8,7 @@ use diagonal::rdp::Rdp;
 use galois::Pq;
 use layout::{Rotating, Standing};
 use member::cell::Cell;
-use runs::single::AnyVolume;
+use runs::any_volume::AnyVolume;
 use runs::{Answer, Call, Declined, close_all, format, run};
 use shelf::Shelf;
 use std::alloc::{AllocError, Global};

@@ -15,7 +15,8 @@ pub enum CodeName {
 pub struct UnknownCode;
 
 impl CodeName {
-    // The number by which the code is known.
+    // The number by which the code is known. A method, since a `u8` from a code would not say what it counts. No program asks for it;
+    // it stays for its promise.
     pub fn number(self) -> u8
         ensures value { result ≡ code_number self }
     {

@@ -12,7 +12,7 @@ use Rattle.history.specs.Calls.{State, Call, Answer}
 use Rattle.history.specs.Calls.Call.{open_slot, step, close}
 use Rattle.history.specs.Calls.Answer.{number, order, refused}
 use Rattle.history.specs.History.{Event, Kept}
-use Rattle.runs.specs.declared.single.AnyVolume.{Ghosts as AnyVolume}
+use Rattle.runs.specs.declared.any_volume.AnyVolume.{Ghosts as AnyVolume}
 use Rattle.runs.specs.Told.{event, GoesOn}
 use Rattle.runs.proofs.Logged.{goes_nowhere, goes_further}
 use Rattle.script.specs.declared.parts.Act.{Act}

@@ -1,6 +1,6 @@
 -- What comes of an operation on a volume.
 use Rattle.std.specs.Prelude.{◌≡◌, ℕ, Result}
-use Rattle.runs.specs.declared.single.AnyVolume.{Ghosts as AnyVolume}
+use Rattle.runs.specs.declared.any_volume.AnyVolume.{Ghosts as AnyVolume}
 use Rattle.script.specs.declared.parts.Act.{Act}
 use Rattle.recorder.specs.declared.acts.ActRefusal.{ActRefusal}
 use Rattle.recorder.specs.Acts.{ActsOn, told_line}

@@ -8,7 +8,7 @@ ghost use Rattle.recorder.specs.Doing.{DidAct};
 
 use code::BLOCK;
 use contents::{Loss, Refusal};
-use runs::single::AnyVolume;
+use runs::any_volume::AnyVolume;
 use script::parts::{Act, Operation};
 use volume::volume::rebuilds::Order;
 
@@ -47,8 +47,7 @@ pub(crate) fn numbers(answer: Result<usize, ActRefusal>) -> (u8, usize)
         Ok(value) => (0, value),
         Err(ActRefusal::Unknown) => (UNKNOWN, 0),
         Err(ActRefusal::Refused(refusal)) => match refusal {
-            Refusal::Lost(loss) => (refusal.number(), union(loss)),
-            Refusal::Torn(loss) => (refusal.number(), union(loss)),
+            Refusal::Lost(loss) | Refusal::Torn(loss) => (refusal.number(), union(loss)),
             _ => (refusal.number(), 0),
         },
     }
@@ -100,6 +99,7 @@ fn rebuild<V: AnyVolume>(volume: &mut V, slot: usize, most: usize) -> Result<usi
 pub(crate) fn act<V: AnyVolume>(volume: &mut V, operation: Operation) -> Result<usize, ActRefusal>
     ensures did { DidAct V.AnyVolume volume.old (act_of operation) result volume.new }
 {
+    // An act is data of a script, made from its bytes: so one switch here, and no closures in its place.
     match Act::from(operation) {
         Act::Tick => {
             volume.tick();

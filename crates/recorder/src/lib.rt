@@ -2,7 +2,7 @@
 // or over an image of eight blocks of zeros.
 #![tactic(auto)]
 
-ghost use Rattle.std.specs.Prelude.{◌≡◌, ◌<◌, true, false, IfOk, string_bytes, OnOk};
+ghost use Rattle.std.specs.Prelude.{◌≡◌, ◌<◌, true, false, IfOk, Some, string_bytes, OnOk};
 ghost use Rattle.script.specs.Format.{is_script, entry_count, operation_count, code_at};
 ghost use Rattle.remap.specs.Places.{table_of, unmoved, kept_back};
 ghost use Rattle.recorder.specs.Planned.{with_planned, planned};
@@ -25,8 +25,8 @@ use member::Member;
 use member::cell::Cell;
 use member::image::Image;
 use remap::Remap;
+use runs::any_volume::AnyVolume;
 use runs::format;
-use runs::single::AnyVolume;
 use script::line::{Line, bad_script, push_line};
 use script::parts::{CodeName, Entry};
 use script::source::Script;
@@ -48,14 +48,12 @@ type Images = Link<Stack<Image>, Link<Stack<Image>, Link<Stack<Image>, NoMembers
 type Slots = Link<Stack<Cell>, Link<Stack<Cell>, Link<Stack<Cell>, Images>>>;
 
 // Adds a script's entry to a layer if it is for that slot. A plan has room for all entries of a script.
-fn plan_entry<M: Member>(layer: &mut FaultLayer<M>, asked: Option<Entry>, slot: usize)
-    ensures plan { layer.new.plan ≡ with_planned asked slot layer.old.plan }
+fn plan_entry<M: Member>(layer: &mut FaultLayer<M>, fault: Entry, slot: usize)
+    ensures plan { layer.new.plan ≡ with_planned (Some fault) slot layer.old.plan }
     ensures below { layer.new.below ≡ layer.old.below }
 {
-    if let Some(fault) = asked {
-        if fault.slot == slot {
-            let _ = layer.add(fault.round, usize::from(fault.kind), fault.block);
-        }
+    if fault.slot == slot {
+        let _ = layer.add(fault.round, usize::from(fault.kind), fault.block);
     }
 }
 
@@ -69,7 +67,7 @@ fn stack<M: Member>(below: M, script: &Script, slot: usize) -> Stack<M>
     let mut layer = FaultLayer::new(below);
     // An iterator of entries would count the places too, since the bytes of an entry lie apart.
     for i in 0..script.entries() {
-        plan_entry(&mut layer, script.entry(i), slot);
+        plan_entry(&mut layer, script.entry(i).unwrap(), slot);
     }
     Remap::new(layer, SPARES)
 }
@@ -82,41 +80,32 @@ fn image(heap: Global, script: &Script, slot: usize) -> Result<Stack<Image>, All
     Ok(stack(Image::new(zeros), script, slot))
 }
 
+// A slot before others.
+fn link<M, B>(first: M, rest: B) -> Link<M, B>
+    ensures linked { result ≡ record { first = first; rest = rest } }
+{
+    Link { first, rest }
+}
+
 // The slots from 3 on.
 fn images(heap: Global, script: &Script) -> Result<Images, AllocError>
     ensures made { IfOk result (λ b. slots_in ⟦<Images as Bank>⟧ b ≡ image_slots script.now.bytes.items) }
 {
-    let third = image(heap, script, 3)?;
-    let fourth = image(heap, script, 4)?;
-    let fifth = image(heap, script, 5)?;
-    let rest = Link {
-        first: fifth,
-        rest: NoMembers,
-    };
-    let rest = Link {
-        first: fourth,
-        rest,
-    };
-    Ok(Link { first: third, rest })
+    let slot_3 = image(heap, script, 3)?;
+    let slot_4 = image(heap, script, 4)?;
+    let slot_5 = image(heap, script, 5)?;
+    Ok(link(slot_3, link(slot_4, link(slot_5, NoMembers))))
 }
 
 // All slots, with the script's entries. Those for slots that there are not are dropped.
 fn slots(heap: Global, script: &Script) -> Result<Slots, AllocError>
     ensures made { IfOk result (λ b. slots_in ⟦<Slots as Bank>⟧ b ≡ recorder_slots script.now.bytes.items) }
 {
-    let rest = images(heap, script)?;
-    let rest = Link {
-        first: stack(Cell::new(), script, 2),
-        rest,
-    };
-    let rest = Link {
-        first: stack(Cell::new(), script, 1),
-        rest,
-    };
-    Ok(Link {
-        first: stack(Cell::new(), script, 0),
-        rest,
-    })
+    let from_3 = images(heap, script)?;
+    let slot_0 = stack(Cell::new(), script, 0);
+    let slot_1 = stack(Cell::new(), script, 1);
+    let slot_2 = stack(Cell::new(), script, 2);
+    Ok(link(slot_0, link(slot_1, link(slot_2, from_3))))
 }
 
 // Does operation `i` of a script and appends its line.
@@ -130,9 +119,7 @@ fn step<V: AnyVolume>(
     ensures same { V.shape volume.new ≡ V.shape volume.old }
     ensures made { OnOk result (ActStep (V.shape volume.old) script.now.bytes.items i (V.state volume.old) (V.state volume.new) (string_bytes out.old) (string_bytes out.new)) }
 {
-    let Some(operation) = script.operation(i) else {
-        return Ok(());
-    };
+    let operation = script.operation(i).unwrap();
     let (refusal, value) = numbers(act(volume, operation));
     let line = Line {
         position: i,

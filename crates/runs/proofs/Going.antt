@@ -43,6 +43,10 @@ given a v h b x e = let d : v ≡ x = cc in subst (λ (y : List ℕ). Bytes (len
 pub goes : (V : Shape) (σ τ : State) (q : Call) (r : Answer) → GivenBytes q → (Roomy V σ.members → Makes V σ q r τ) → GoesOn V σ (event q r) τ
 goes V σ τ q r given makes start es k = kept_by_calls V start es σ τ q r k given (makes (kept_is_roomy V start es σ k))
 
+-- of a call that is no write
+pub goes_by : (V : Shape) (σ τ : State) (q : Call) (r : Answer) → Makes V σ q r τ → is_write q ≡ false → GoesOn V σ (event q r) τ
+goes_by V σ τ q r makes h = goes V σ τ q r (no_bytes q h) (λ _. makes)
+
 -- what an answered read left in its buffer is what is recovered
 pub handed_out : (x : Result Unit Told) (held block old : List ℕ) → held ≡ cond (is_ok x) block old → answered (λ _. bytes held) x ≡ answered (λ _. bytes block) x
 handed_out (Ok u) held block old e = ap bytes e

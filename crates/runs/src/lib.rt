@@ -2,7 +2,7 @@
 // volume's; none can be made up.
 #![tactic(auto)]
 
-ghost use Rattle.std.specs.Prelude.{◌≡◌, ℕ, ◌+◌, ◌<◌, ◌≤◌, List, [], length, IfOk, vec_len, vec_capacity, OnErr};
+ghost use Rattle.std.specs.Prelude.{◌≡◌, ℕ, ◌<◌, List, [], length, IfOk, vec_len, vec_capacity, OnErr};
 ghost use Rattle.bank.specs.Slots.{told};
 ghost use Rattle.contents.specs.Records.{idle_at};
 ghost use Rattle.contents.specs.Changes.{FormatChanges};
@@ -12,20 +12,20 @@ ghost use Rattle.history.specs.History.{Kept};
 ghost use Rattle.volume.specs.Volumes.{shape, members, records};
 ghost use Rattle.runs.specs.declared.Call.TheVariants.{Read as Reading, Open as Opening, Step as Stepping, Close as Closing};
 ghost use Rattle.runs.specs.declared.Declined.TheVariants.{Refused};
-ghost use Rattle.runs.specs.Obeying.{Obeyed};
+ghost use Rattle.runs.specs.Obeying.{Obeyed, RoomKept};
 ghost use Rattle.runs.specs.Told.{state, orders_after, events, orders_left, AllMade, GoesOn, ClosesOn};
 
+use any_volume::AnyVolume;
 use bank::Bank;
 use code::{BLOCK, Code};
 use contents::Refusal;
 use layout::Layout;
-use single::AnyVolume;
 use std::alloc::{AllocError, Global};
 use volume::volume::Volume;
 use volume::volume::blank::Blank;
 use volume::volume::rebuilds::Order;
 
-pub mod single;
+pub mod any_volume;
 mod texts;
 
 // A call on a volume.
@@ -102,8 +102,7 @@ fn open_slot<V: AnyVolume>(
     requires room { vec_len orders.old < vec_capacity orders.old }
     ensures obeyed { Obeyed V.AnyVolume volume.old orders.old.items (Opening slot) result volume.new }
     ensures orders { orders.new.items ≡ orders_after orders.old.items (Opening slot) result }
-    ensures len { vec_len orders.new ≤ vec_len orders.old + 1 }
-    ensures capacity { vec_capacity orders.new ≡ vec_capacity orders.old }
+    ensures kept { RoomKept orders.old orders.new }
 {
     let order = volume.open(slot)?;
     let at = order.slot();
@@ -133,8 +132,7 @@ fn close_by<V: AnyVolume>(
 ) -> Result<Answer, Declined>
     ensures obeyed { Obeyed V.AnyVolume volume.old orders.old.items (Closing place) result volume.new }
     ensures orders { orders.new.items ≡ orders_after orders.old.items (Closing place) result }
-    ensures len { vec_len orders.new ≤ vec_len orders.old + 1 }
-    ensures capacity { vec_capacity orders.new ≡ vec_capacity orders.old }
+    ensures kept { RoomKept orders.old orders.new }
 {
     if place >= orders.len() {
         return Err(Declined::NoOrder);
@@ -151,9 +149,9 @@ fn obey<V: AnyVolume>(
     requires room { vec_len orders.old < vec_capacity orders.old }
     ensures obeyed { Obeyed V.AnyVolume volume.old orders.old.items call.now result volume.new }
     ensures orders { orders.new.items ≡ orders_after orders.old.items call.now result }
-    ensures len { vec_len orders.new ≤ vec_len orders.old + 1 }
-    ensures capacity { vec_capacity orders.new ≡ vec_capacity orders.old }
+    ensures kept { RoomKept orders.old orders.new }
 {
+    // A call is data of a history, which lists them and is compared with its answers: so one switch here, and no closures in their place.
     match call {
         Call::Tick => {
             volume.tick();

@@ -2,11 +2,11 @@
 ghost use Rattle.std.specs.Prelude.{◌≡◌, ◌++◌, IfOk, Some, string_bytes, OnOk};
 ghost use Rattle.script.specs.Text.{line_words, line_text, bad_script};
 
-use crate::source::BadScript;
 use std::alloc::{AllocError, Global};
 use std::fmt;
 
-// What is written of an operation: where it stands in the script, its number, its refusal or 0, and its value.
+// What is written of an operation: where it stands in the script, its number, its refusal or 0, and its value. The refusal is a number, as
+// a line prints numbers, those of unknown operations too, which no Refusal has.
 #[derive(Clone, Copy, PartialEq, Eq, Debug)]
 pub struct Line {
     pub position: usize,
@@ -34,9 +34,9 @@ pub fn push_line(out: &mut String, line: Line) -> Result<(), AllocError>
     writeln!(out, "{line}")
 }
 
-// All that is written of what is no script.
+// All that is written of what is no script. A constant: put together from what the error prints it would read no plainer.
 pub fn bad_script(heap: Global) -> Result<String, AllocError>
     ensures made { IfOk result (λ s. string_bytes s ≡ bad_script) }
 {
-    format!(in heap; "{BadScript}\n")
+    String::from_str(heap, "bad script\n")
 }

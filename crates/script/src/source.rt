@@ -33,7 +33,10 @@ impl fmt::Display for BadScript {
 
 impl Error for BadScript {}
 
+// There is but one BadScript, so that no edit could give another.
 impl From<UnknownCode> for BadScript {
+    ghost from_gives = { λ _ bad. bad ≡ record {} };
+
     fn from(_unknown: UnknownCode) -> BadScript {
         BadScript
     }

@@ -6,6 +6,7 @@ pub returns : goal.returns
 returns c =
     record {
       made =
-          link_eq _ _ _ _ c.in_ok-third.ensures.made
-          (link_eq _ _ _ _ c.in_ok-fourth.ensures.made (link_eq _ _ _ _ c.in_ok-fifth.ensures.made refl));
+          rw c.link-3.ensures.linked (rw c.link-2.ensures.linked (rw c.link.ensures.linked (
+          link_eq _ _ _ _ c.in_ok-slot_3.ensures.made
+          (link_eq _ _ _ _ c.in_ok-slot_4.ensures.made (link_eq _ _ _ _ c.in_ok-slot_5.ensures.made refl)))));
     }

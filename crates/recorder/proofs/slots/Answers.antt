@@ -9,8 +9,9 @@ returns c =
     let xs = vec_items c.args.script.now.bytes in
     record {
       made =
-          link_eq _ _ _ _ (c.stack-3.ensures.meaning ∙ ap (λ v. slot_meaning (cell_meaning v) xs 0) c.new-3.ensures.state)
-          (link_eq _ _ _ _ (c.stack-2.ensures.meaning ∙ ap (λ v. slot_meaning (cell_meaning v) xs 1) c.new-2.ensures.state)
-          (link_eq _ _ _ _ (c.stack.ensures.meaning ∙ ap (λ v. slot_meaning (cell_meaning v) xs 2) c.new.ensures.state)
-          c.in_ok-rest.ensures.made));
+          rw c.link-3.ensures.linked (rw c.link-2.ensures.linked (rw c.link.ensures.linked (
+          link_eq _ _ _ _ (c.stack-slot_0.ensures.meaning ∙ ap (λ v. slot_meaning (cell_meaning v) xs 0) c.new.ensures.state)
+          (link_eq _ _ _ _ (c.stack-slot_1.ensures.meaning ∙ ap (λ v. slot_meaning (cell_meaning v) xs 1) c.new-2.ensures.state)
+          (link_eq _ _ _ _ (c.stack-slot_2.ensures.meaning ∙ ap (λ v. slot_meaning (cell_meaning v) xs 2) c.new-3.ensures.state)
+          c.in_ok-from_3.ensures.made)))));
     }

@@ -1,4 +1,4 @@
-use Rattle.std.proofs.Common.{◌≡◌, ℕ, vec_items, refl, ap, ◌∙◌, subst, arith}
+use Rattle.std.proofs.Common.{◌≡◌, ℕ, Some, vec_items, sym, refl, ap, ◌∙◌, subst, arith}
 use Rattle.remap.specs.Places.{table_of, unmoved, kept_back}
 use Rattle.script.specs.Format.{entry_count}
 use Rattle.recorder.specs.Planned.{planned}
@@ -11,7 +11,7 @@ loop-i-init g c = (refl, planned_none _ _ _ c.new-layer.ensures.plan)
 pub loop-i-preserved : goal.loop-i-preserved
 loop-i-preserved g c = (
   c.plan_entry.ensures.below ∙ c.loop-i.invariant.0,
-  planned_more (vec_items c.args.script.now.bytes) c.args.slot c.loop-i.i c.entry.result c.loop-i.layer.plan c.plan_entry.new.layer.plan c.entry.ensures.value c.loop-i.invariant.1 c.plan_entry.ensures.plan,
+  planned_more (vec_items c.args.script.now.bytes) c.args.slot c.loop-i.i (Some c.unwrap.result) c.loop-i.layer.plan c.plan_entry.new.layer.plan (sym c.unwrap.ensures ∙ c.entry.ensures.value) c.loop-i.invariant.1 c.plan_entry.ensures.plan,
 )
 
 pub returns : goal.returns

@@ -50,7 +50,7 @@ loop-call-preserved g c =
       omega (arith, c.push_reserved.ensures.len, i.0),
       ap length p ∙ length_push rs answer ∙ ap (λ (y : ℕ). y + 1) i.1,
       omega (arith, c.push_reserved.ensures.capacity, i.2),
-      omega (arith, x.len, x.capacity, i.3),
+      omega (arith, x.kept.len, x.kept.capacity, i.3),
       y.same ∙ i.4,
       subst (λ (l : List Event). GoesOn V σ l ρ) (sym all) (goes_further V σ τ ρ _ _ i.5 goes),
       x.orders ∙ sym left,

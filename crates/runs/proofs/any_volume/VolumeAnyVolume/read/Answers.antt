@@ -3,13 +3,12 @@ use Rattle.contents.specs.Records.{frontiers}
 use Rattle.contents.specs.Shapes.{stripe_of, column_of, recovered_at}
 use Rattle.contents.specs.Answers.{read_outcome}
 use Rattle.history.specs.Calls.{answered}
-use Rattle.history.specs.Calls.Call.{read}
 use Rattle.history.specs.Calls.Answer.{bytes}
 use Rattle.volume.specs.Slots.{members_of}
 use Rattle.volume.specs.Volumes.{shape}
 use Rattle.runs.specs.Told.{state}
-use Rattle.runs.proofs.Going.{records_same, no_bytes, goes, handed_out}
-use Rattle.runs.proofs.single.VolumeAnyVolume.read.Goals as goal
+use Rattle.runs.proofs.Going.{records_same, goes_by, handed_out}
+use Rattle.runs.proofs.any_volume.VolumeAnyVolume.read.Goals as goal
 
 pub returns-clause-makes : goal.returns-clause-makes
 returns-clause-makes g c =
@@ -25,4 +24,4 @@ returns-clause-makes g c =
     }
 
 pub returns-clause-goes : goal.returns-clause-goes
-returns-clause-goes g c = goes _ _ _ (read c.args.block (length c.args.buffer.now)) _ (no_bytes _ refl) (λ _. returns-clause-makes g c)
+returns-clause-goes g c = goes_by _ _ _ _ _ (returns-clause-makes g c) refl

@@ -1,4 +1,4 @@
-// Single calls on a volume of any code, layout and bank, with what each adds to its history.
+// The calls on a volume as a trait, with what each adds to its history; and the volume of any code, layout and bank as one of it.
 ghost use Rattle.std.specs.Prelude.{◌≡◌, ℕ, length, is_ok, IfOk, if◌then◌else◌};
 ghost use Rattle.contents.specs.Refusals.{outcome};
 ghost use Rattle.history.specs.Calls.{State, answered, Makes};

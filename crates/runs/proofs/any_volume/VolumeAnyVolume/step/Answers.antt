@@ -3,7 +3,7 @@ use Rattle.history.specs.Calls.{answered}
 use Rattle.history.specs.Calls.Call.{step}
 use Rattle.history.specs.Calls.Answer.{number}
 use Rattle.runs.proofs.Going.{no_bytes, goes}
-use Rattle.runs.proofs.single.VolumeAnyVolume.step.Goals as goal
+use Rattle.runs.proofs.any_volume.VolumeAnyVolume.step.Goals as goal
 
 pub returns-clause-makes : goal.returns-clause-makes
 returns-clause-makes g c = λ room. record { answer = ap (answered number) (c.step.ensures.answered room); changes = c.step.ensures.changes room }

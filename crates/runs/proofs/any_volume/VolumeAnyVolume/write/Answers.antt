@@ -3,7 +3,7 @@ use Rattle.history.specs.Calls.{answered}
 use Rattle.history.specs.Calls.Call.{write}
 use Rattle.history.specs.Calls.Answer.{number}
 use Rattle.runs.proofs.Going.{records_same, given, goes}
-use Rattle.runs.proofs.single.VolumeAnyVolume.write.Goals as goal
+use Rattle.runs.proofs.any_volume.VolumeAnyVolume.write.Goals as goal
 
 pub returns-clause-makes : goal.returns-clause-makes
 returns-clause-makes g c = record { answer = ap (answered number) c.write.ensures.answered; changes = (c.write.ensures.changes, records_same c.args.self.now c.write.new.self c.write.ensures.kept.table) }
