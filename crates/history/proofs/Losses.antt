@@ -20,10 +20,10 @@ four_by f (Ok u) e = absurd (omega arith)
 four_by f (Err t) e = (t, refl, e)
 
 not_number : (u : ℕ) (t : Told) → number u ≡ refused t → ⊥
-not_number u t e = let z : ◌≡◌ {A = ℕ} 0 1 = cc in omega arith
+not_number u t e = cc
 
 not_counts : (x : ℕ × ℕ × ℕ) (t : Told) → counts x.0 x.1 x.2 ≡ refused t → ⊥
-not_counts x t e = let z : ◌≡◌ {A = ℕ} 0 1 = cc in omega arith
+not_counts x t e = cc
 
 module _ (V : Shape) (σ τ : State) where
   -- an outcome that tells loss gives an answer that does
