@@ -146,24 +146,21 @@ module _ (V : Shape) (M : Members) (F : Frontiers) (s : ℕ) where
 -- ---- the calls
 
 -- which check a refusal came from
-err_is : {U : Type 0} (a b : Told) → ◌≡◌ {A = Result U Told} (Err a) (Err b) → a ≡ b
-err_is a b e = cc
-
 read_refused : (sized below lost : Bool) (x t : Told) → ◌≡◌ {A = Result Unit Told} (cond sized (cond below (cond lost (Err x) (Ok tt)) (Err (plain 2))) (Err (plain 3))) (Err t)
     → ◌≡◌ {A = ℕ} t.number 4 → (lost ≡ true) × (x ≡ t)
-read_refused true true true x t e n = (refl, err_is {U = Unit} x t e)
+read_refused true true true x t e n = (refl, cc)
 read_refused true true false x t e n = absurd cc
-read_refused true false lost x t e n = let q : (plain 2) ≡ t = cc in absurd (omega (arith, ap (λ (y : Told). y.number) q))
-read_refused false below lost x t e n = let q : (plain 3) ≡ t = cc in absurd (omega (arith, ap (λ (y : Told). y.number) q))
+read_refused true false lost x t e n = absurd cc
+read_refused false below lost x t e n = absurd cc
 
 write_torn : (sized below lost torn : Bool) (l m : Loss) (k : ℕ) (t : Told)
     → ◌≡◌ {A = Result ℕ Told} (cond sized (cond below (cond lost (Err (with_loss 4 l)) (cond torn (Err (with_loss 5 m)) (Ok k))) (Err (plain 2))) (Err (plain 3))) (Err t)
     → ◌≡◌ {A = ℕ} t.number 5 → (torn ≡ true) × (with_loss 5 m ≡ t)
-write_torn true true true torn l m k t e n = let q : (with_loss 4 l) ≡ t = cc in absurd (omega (arith, ap (λ (y : Told). y.number) q))
-write_torn true true false true l m k t e n = (refl, err_is {U = ℕ} (with_loss 5 m) t e)
+write_torn true true true torn l m k t e n = absurd cc
+write_torn true true false true l m k t e n = (refl, cc)
 write_torn true true false false l m k t e n = absurd cc
-write_torn true false lost torn l m k t e n = let q : (plain 2) ≡ t = cc in absurd (omega (arith, ap (λ (y : Told). y.number) q))
-write_torn false below lost torn l m k t e n = let q : (plain 3) ≡ t = cc in absurd (omega (arith, ap (λ (y : Told). y.number) q))
+write_torn true false lost torn l m k t e n = absurd cc
+write_torn false below lost torn l m k t e n = absurd cc
 
 not_four : (torn : Bool) (l : Loss) (k : ℕ) → ◌≡◌ {A = ℕ} (refusal_number {U = ℕ} (cond torn (Err (with_loss 5 l)) (Ok k))) 4 → ⊥
 not_four true l k e = omega arith
