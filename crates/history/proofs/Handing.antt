@@ -26,9 +26,6 @@ pub refused_by : {U : Type 0} (f : U → Answer) → ((u : U) (t : Told) → f u
 refused_by f n (Ok u) t e = absurd (n u t e)
 refused_by f n (Err x) t e = cc
 
-pub not_bytes : (x : List ℕ) (u : Unit {0}) (t : Told) → bytes x ≡ refused t → ⊥
-not_bytes x u t e = cc
-
 -- ---- a read of block a
 module _ (V : Shape) (L : Valid V) (σ : State) (a len : ℕ) (r : Answer) (τ : State) (m : Makes V σ (read a len) r τ) where
   abbrev M : Members
@@ -49,7 +46,7 @@ module _ (V : Shape) (L : Valid V) (σ : State) (a len : ℕ) (r : Answer) (τ :
       sym ((reads V L M F).hands a old o c f) ∙ cond-true _ _ _ (ap is_ok o) ∙ g.1
 
   pub refused_read : (t : Told) → r ≡ refused t → read_outcome V M F a len ≡ Err t
-  refused_read t e = refused_by (λ _. bytes (recovered_at V M F (stripe_of V a) (column_of V a))) (not_bytes _) (read_outcome V M F a len) t (sym m.answer ∙ e)
+  refused_read t e = refused_by (λ _. bytes (recovered_at V M F (stripe_of V a) (column_of V a))) (λ u x d. cc) (read_outcome V M F a len) t (sym m.answer ∙ e)
 
   pub differ : RefusedWith 4 r → (c : ℕ → List ℕ) → Fits V σ c → DifferAt V σ a
   differ h c f =
