@@ -54,7 +54,7 @@ module _ (M : Members) (F : Frontiers) (s i : ℕ) where
   unfolding held status
   current_is = current_by (M i).gone (ltb s (F i)) ((M i).block s)
 
-  -- ---- what a status tells, and what tells it
+  -- a present member with a readable block below the frontier is current
   pub status_current : (M i).gone ≡ false → s < F i → is_some ((M i).block s) ≡ true → status M F s i ≡ Current
   status_current g l o = status_is ∙ cond-false _ _ _ g ∙ cond-true _ _ _ (lt-ltb s (F i) l) ∙ cond-true _ _ _ o
 
