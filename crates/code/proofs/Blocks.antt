@@ -5,6 +5,15 @@ use lib.Bits.{bit_xor, xor_comm, xor_assoc, xor_self, xor_zero_l, xor_zero_r, xo
 use Rattle.std.proofs.lemmas.List.{ext_get_or}
 use Rattle.code.specs.Blocks.{Bytes, Block, block_size, ◌⊕◌, onto, zeros}
 
+-- ---- ⊕ of numbers
+xor_swap : (a b c : ℕ) → bit_xor a (bit_xor b c) ≡ bit_xor b (bit_xor a c)
+xor_swap a b c = sym (xor_assoc a b c) ∙ ap (λ x. bit_xor x c) (xor_comm a b) ∙ xor_assoc b a c
+
+-- the middle two of four exchanged
+pub xor_four : (a b c d : ℕ) → bit_xor (bit_xor a b) (bit_xor c d) ≡ bit_xor (bit_xor a c) (bit_xor b d)
+xor_four a b c d = simp (xor_assoc, xor_swap)
+
+-- ---- ⊕ of blocks
 pub add_comm : (a b : List ℕ) → a ⊕ b ≡ b ⊕ a
 unfolding ◌⊕◌
 add_comm [] [] = refl
@@ -128,9 +137,6 @@ onto_same a b h =
     ext_get_or 0 (onto a b) (a ⊕ b) (length_onto a b ∙ sym (length_add (length a) a b refl (sym h)))
     (λ i l. get_or_onto a b i (omega (arith, length_onto a b)) ∙ sym (get_or_add a b h i))
 
--- the ⊕ of two lists of one length, from its bytes
-pub is_add : (s a b : List ℕ) → length s ≡ length a → length a ≡ length b → ((i : ℕ) → i < length s → get_or s i 0 ≡ bit_xor (get_or a i 0) (get_or b i 0)) → s ≡ a ⊕ b
-is_add s a b hs ha h = ext_get_or 0 s (a ⊕ b) (hs ∙ sym (length_add (length a) a b refl (sym ha))) (λ i l. h i l ∙ sym (get_or_add a b ha i))
-
+-- the run with b added, from its bytes
 pub is_onto : (s a b : List ℕ) → length s ≡ length a → ((i : ℕ) → i < length a → get_or s i 0 ≡ bit_xor (get_or a i 0) (get_or b i 0)) → s ≡ onto a b
 is_onto s a b hs h = ext_get_or 0 s (onto a b) (hs ∙ sym (length_onto a b)) (λ i l. h i (omega arith) ∙ sym (get_or_onto a b i (omega arith)))

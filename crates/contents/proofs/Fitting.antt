@@ -1,27 +1,18 @@
 -- What fits, stripe by stripe and slot by slot.
-use Rattle.std.proofs.Common.{◌≡◌, ℕ, ◌+◌, ◌*◌, ◌<◌, ◌≤◌, false, List, Option, sym, refl, ap, ◌∙◌, subst, ⊎_elim, div-add-mod' as div-add-mod'', arith}
+use Rattle.std.proofs.Common.{◌≡◌, ℕ, ◌+◌, ◌*◌, ◌<◌, ◌≤◌, false, List, Option, sym, refl, ◌∙◌, subst, ⊎_elim, div-add-mod' as div-add-mod'', arith}
 use lib.Arith.{digits_lt}
 use Rattle.std.proofs.lemmas.Nat.{div_below, mod_below}
 use Rattle.std.proofs.lemmas.Bool.{ltb-false, cases_lt}
 use Rattle.code.specs.Blocks.{Block, zeros, block_size}
 use Rattle.code.specs.Codes.{Coding, Lawful}
-use Rattle.code.proofs.Blocks.{block_zeros, add_self, zeros_zeros}
 use Rattle.parity.specs.Stripe.{Content, column, Holds, Fits}
-use Rattle.parity.proofs.Columns.{kind, is_data, is_P, is_Q, column_data, column_P, column_Q}
-use Rattle.parity.proofs.Sums.{sum_block, sum_cong, sum_zeros}
+use Rattle.parity.proofs.Columns.{kind, is_data, is_P, is_Q, column_data, column_P, column_Q, column_cong, mix_zeros}
+use Rattle.parity.proofs.Sums.{sum_block, sum_zeros}
 use Rattle.parity.proofs.Solving.{recovers}
 use Rattle.contents.specs.Columns.{Members, Frontiers, held}
 use Rattle.contents.specs.Shapes.{Shape, Valid, data_columns, blocks, stripe_of, column_of, columns_at, missing_at, lossy, recovered_at, stripe, FitsVolume}
 
 -- ---- the columns of a stripe
-pub column_cong : (C : Coding) (k : ℕ) (c d : ℕ → List ℕ) → ((i : ℕ) → i < k → c i ≡ d i) → (t : ℕ) → t < k + 2 → column C k c t ≡ column C k d t
-column_cong C k c d h t l =
-    elim (kind k t l) [
-      | is_data m ↦ column_data C k c t m ∙ h t m ∙ sym (column_data C k d t m)
-      | is_P e ↦ column_P C k c t e ∙ sum_cong k c d h ∙ sym (column_P C k d t e)
-      | is_Q e ↦ column_Q C k c t e ∙ sum_cong k (λ j. C.mix j (c j)) (λ j. C.mix j (d j)) (λ i m. ap (C.mix i) (h i m)) ∙ sym (column_Q C k d t e)
-    ]
-
 pub fits_cong : (C : Coding) (k : ℕ) (c d : ℕ → List ℕ) (cols : ℕ → Option (List ℕ)) → ((i : ℕ) → i < k → c i ≡ d i) → Fits C k c cols → Fits C k d cols
 fits_cong C k c d cols h f t l = subst (λ (b : List ℕ). Holds (cols t) b) (column_cong C k c d h t l) (f t l)
 
@@ -34,18 +25,12 @@ module _ (C : Coding) (L : Lawful block_size C) (k : ℕ) (kw : k ≤ C.limit) w
         | is_Q e ↦ subst Block (sym (column_Q C k c t e)) (sum_block k (λ j. C.mix j (c j)) (λ j m. (L.single j (omega arith)).there (c j) (h j m)))
       ]
 
-  mix_zeros : (j : ℕ) → j < k → C.mix j zeros ≡ zeros
-  mix_zeros j l =
-      ap (C.mix j) (sym zeros_zeros)
-      ∙ L.linear j (omega arith) zeros zeros block_zeros block_zeros
-      ∙ add_self (C.mix j zeros) ((L.single j (omega arith)).there zeros block_zeros)
-
   pub column_zeros : (t : ℕ) → t < k + 2 → column C k (λ _. zeros) t ≡ zeros
   column_zeros t l =
       elim (kind k t l) [
         | is_data m ↦ column_data C k (λ _. zeros) t m
         | is_P e ↦ column_P C k (λ _. zeros) t e ∙ sum_zeros k (λ _. zeros) (λ i m. refl)
-        | is_Q e ↦ column_Q C k (λ _. zeros) t e ∙ sum_zeros k (λ j. C.mix j zeros) (λ i m. mix_zeros i m)
+        | is_Q e ↦ column_Q C k (λ _. zeros) t e ∙ sum_zeros k (λ j. C.mix j zeros) (mix_zeros C L k kw)
       ]
 
 -- ---- what a volume's code gives for column t of stripe s

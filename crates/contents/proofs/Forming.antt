@@ -1,20 +1,12 @@
 -- The shape that parts make.
-use Rattle.std.proofs.Common.{◌≡◌, ℕ, zero, suc, ◌+◌, ◌-◌, ◌<◌, ◌≤◌, min, true, false, leb, ◌⊎◌, sym, refl, subst, inl, inr, ⊎_elim, add-one, arith}
+use Rattle.std.proofs.Common.{◌≡◌, ℕ, zero, suc, ◌-◌, ◌<◌, ◌≤◌, min, true, false, leb, ◌⊎◌, sym, refl, subst, inl, inr, ⊎_elim, arith}
 use Rattle.std.proofs.lemmas.Bool.{cases_Bool, cases_eq, cases_lt, cond-true, cond-false, and_parts, leb-true}
 use Rattle.member.specs.Meaning.{most_blocks}
 use Rattle.contents.specs.Columns.{Members}
 use Rattle.contents.specs.Shapes.{Shape, Valid, Roomy, smallest, fit}
 use Rattle.contents.specs.Theorems.{SmallestCount, Forms}
 
--- ---- a loop's start and step
-pub smallest_none : (M : Members) → smallest M 0 ≡ most_blocks
-unfolding smallest
-smallest_none M = refl
-
-pub smallest_more : (M : Members) (n : ℕ) → smallest M (n + 1) ≡ min (smallest M n) (M n).count
-unfolding smallest
-smallest_more M n = rw add-one
-
+-- ---- the smallest count
 pub smallest_few : (M : Members) (n : ℕ) → smallest M n ≤ most_blocks
 unfolding smallest
 smallest_few M zero = omega arith

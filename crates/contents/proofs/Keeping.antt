@@ -13,7 +13,7 @@ use Rattle.contents.specs.Shapes.{Shape, Valid, Roomy, data_columns, lossy, reco
 use Rattle.contents.specs.Answers.{scrub_takes, takes, mended, refused, absent}
 use Rattle.contents.specs.Changes.{Put, Scrubbed, FormatChanges}
 use Rattle.contents.specs.Theorems.{CountsKept, FitsOn, Scrubbing, Scrubs, Ticks, Formats}
-use Rattle.contents.proofs.Statuses.{shown, held_is, status_current, unreadable_parts}
+use Rattle.contents.proofs.Statuses.{none_of, shown, held_is, status_current, unreadable_parts}
 use Rattle.contents.proofs.Members.{written_count, written_gone, written_others, written_present, holds_as, holds_none, holds_either, held_same, held_holds, held_gone, written_holds, put_apart, put_count}
 use Rattle.contents.proofs.Masks.{count_four}
 use Rattle.contents.proofs.Walks.{walk_each, walk_rest}
@@ -71,10 +71,6 @@ module _ (V : Shape) (L : Valid V) (M : Members) (F : Frontiers) (room : Roomy V
       let none : write_refusal (M j) b block_size ≡ None = none_of _ (not-true _ k) in
       let x = ((scrub_each j l).written (ap is_unreadable u)).accepted (ap (write_refusal (M j) b) long ∙ none) in
       status_current N F b j (x.gone ∙ parts.0) (ltb-true b (F j) parts.1) (ap is_some x.here)
-    where
-      none_of : {A : Type 0} (o : Option A) → is_some o ≡ false → o ≡ None
-      none_of None e = refl
-      none_of (Some y) e = absurd (true≢false e)
 
   scrub_fits : b < V.stripes → lossy V M F b ≡ false → FitsOn V M F N
   scrub_fits lb p c f = record {

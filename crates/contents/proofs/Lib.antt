@@ -1,5 +1,4 @@
 pub mod Statuses
-pub mod Looks
 pub mod Members
 pub mod Walks
 pub mod Fitting

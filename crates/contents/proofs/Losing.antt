@@ -1,5 +1,5 @@
 -- A refusal for loss comes exactly when three columns are missing, and its masks name the slots.
-use Rattle.std.proofs.Common.{◌≡◌, ℕ, ◌+◌, ◌<◌, ◌≤◌, Bool, true, false, cond, not, eqb, ltb, ◌⊎◌, List, [], ◌∷◌, length, is_some, Some, None, Ok, Err, Option, Result, sym, refl, ap, ◌∙◌, subst, inl, inr, ⊎_elim, arith}
+use Rattle.std.proofs.Common.{◌≡◌, ℕ, ◌+◌, ◌<◌, ◌≤◌, Bool, true, false, cond, not, eqb, ltb, ◌⊎◌, List, [], ◌∷◌, length, is_some, Ok, Err, Result, sym, refl, ap, ◌∙◌, subst, inl, inr, ⊎_elim, arith}
 use Rattle.std.proofs.lemmas.Bool.{false≢true, true≢false, cond-true, ltb-true, lt-ltb, and_parts}
 use Rattle.code.specs.Blocks.{block_size}
 use Rattle.parity.specs.Stripe.{gaps}
@@ -12,7 +12,7 @@ use Rattle.contents.specs.Refusals.{Told, plain, with_loss, refusal_number}
 use Rattle.contents.specs.Shapes.{Shape, data_columns, blocks, stripe_of, column_of, columns_at, missing_at, lossy, loss_at}
 use Rattle.contents.specs.Answers.{read_lost, after_write, mended, refused, absent}
 use Rattle.contents.specs.Theorems.{ThreeMissing, bit, Exactly, Names, TellsLoss, Losses}
-use Rattle.contents.proofs.Statuses.{current_is}
+use Rattle.contents.proofs.Statuses.{none_of, current_is}
 use Rattle.contents.proofs.Masks.{mask_bit, set_only, set_if}
 
 -- ---- the masks name the slots
@@ -91,10 +91,6 @@ module _ (V : Shape) (M : Members) (F : Frontiers) (s : ℕ) where
   }
 
 -- ---- three missing columns
-none_of : (o : Option (List ℕ)) → is_some o ≡ false → o ≡ None
-none_of None e = refl
-none_of (Some b) e = absurd (true≢false e)
-
 one_of : {v i : ℕ} → (v ≡ i) ⊎ ⊥ → v ≡ i
 one_of h = ⊎_elim (λ e. e) (λ e. absurd e) h
 
@@ -150,24 +146,21 @@ module _ (V : Shape) (M : Members) (F : Frontiers) (s : ℕ) where
 -- ---- the calls
 
 -- which check a refusal came from
-err_is : {U : Type 0} (a b : Told) → ◌≡◌ {A = Result U Told} (Err a) (Err b) → a ≡ b
-err_is a b e = cc
-
 read_refused : (sized below lost : Bool) (x t : Told) → ◌≡◌ {A = Result Unit Told} (cond sized (cond below (cond lost (Err x) (Ok tt)) (Err (plain 2))) (Err (plain 3))) (Err t)
     → ◌≡◌ {A = ℕ} t.number 4 → (lost ≡ true) × (x ≡ t)
-read_refused true true true x t e n = (refl, err_is {U = Unit} x t e)
-read_refused true true false x t e n = let z : ◌≡◌ {A = ℕ} 0 1 = cc in absurd (omega arith)
-read_refused true false lost x t e n = let z : ◌≡◌ {A = ℕ} 2 4 = ap (λ (y : Told). y.number) (err_is {U = Unit} (plain 2) t e) ∙ n in absurd (omega arith)
-read_refused false below lost x t e n = let z : ◌≡◌ {A = ℕ} 3 4 = ap (λ (y : Told). y.number) (err_is {U = Unit} (plain 3) t e) ∙ n in absurd (omega arith)
+read_refused true true true x t e n = (refl, cc)
+read_refused true true false x t e n = absurd cc
+read_refused true false lost x t e n = absurd cc
+read_refused false below lost x t e n = absurd cc
 
 write_torn : (sized below lost torn : Bool) (l m : Loss) (k : ℕ) (t : Told)
     → ◌≡◌ {A = Result ℕ Told} (cond sized (cond below (cond lost (Err (with_loss 4 l)) (cond torn (Err (with_loss 5 m)) (Ok k))) (Err (plain 2))) (Err (plain 3))) (Err t)
     → ◌≡◌ {A = ℕ} t.number 5 → (torn ≡ true) × (with_loss 5 m ≡ t)
-write_torn true true true torn l m k t e n = let z : ◌≡◌ {A = ℕ} 4 5 = ap (λ (y : Told). y.number) (err_is {U = ℕ} (with_loss 4 l) t e) ∙ n in absurd (omega arith)
-write_torn true true false true l m k t e n = (refl, err_is {U = ℕ} (with_loss 5 m) t e)
-write_torn true true false false l m k t e n = let z : ◌≡◌ {A = ℕ} 0 1 = cc in absurd (omega arith)
-write_torn true false lost torn l m k t e n = let z : ◌≡◌ {A = ℕ} 2 5 = ap (λ (y : Told). y.number) (err_is {U = ℕ} (plain 2) t e) ∙ n in absurd (omega arith)
-write_torn false below lost torn l m k t e n = let z : ◌≡◌ {A = ℕ} 3 5 = ap (λ (y : Told). y.number) (err_is {U = ℕ} (plain 3) t e) ∙ n in absurd (omega arith)
+write_torn true true true torn l m k t e n = absurd cc
+write_torn true true false true l m k t e n = (refl, cc)
+write_torn true true false false l m k t e n = absurd cc
+write_torn true false lost torn l m k t e n = absurd cc
+write_torn false below lost torn l m k t e n = absurd cc
 
 not_four : (torn : Bool) (l : Loss) (k : ℕ) → ◌≡◌ {A = ℕ} (refusal_number {U = ℕ} (cond torn (Err (with_loss 5 l)) (Ok k))) 4 → ⊥
 not_four true l k e = omega arith

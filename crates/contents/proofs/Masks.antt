@@ -2,8 +2,7 @@
 use Rattle.std.proofs.Common.{◌≡◌, ℕ, zero, suc, ◌+◌, ◌-◌, ◌*◌, ◌/◌, ◌%◌, ◌^◌, ◌<◌, ◌≤◌, Bool, true, false, cond, ◌⊎◌, sym, refl, ap, ◌∙◌, subst, inl, inr, ⊎_elim, add-zero, add-one, arith, pow-add}
 use native.Mathlib.Nat.{add-mul-div_right, add-mul-mod_self_right}
 use Rattle.std.proofs.lemmas.Nat.{shr_high, pow_pos, pow_below}
-use Rattle.std.proofs.lemmas.Bool.{cases_Bool, cases_eq, cases_lt, cond-true, cond-false}
-use Rattle.contents.specs.declared.Loss.{Loss}
+use Rattle.std.proofs.lemmas.Bool.{cases_Bool, cases_eq, cases_lt, cond-true}
 use Rattle.contents.specs.Columns.{Members, Frontiers, status, is_gone, is_behind, is_unreadable, count, mask, loss_of}
 use Rattle.contents.specs.Theorems.{bit, Set}
 
@@ -33,17 +32,9 @@ count_four p q r t h (suc n) =
     let b = h n in
     omega arith
 
-pub mask_none : (p : ℕ → Bool) → mask p 0 ≡ 0
-unfolding mask
-mask_none p = refl
-
 pub mask_more : (p : ℕ → Bool) (n : ℕ) → mask p (n + 1) ≡ mask p n + cond (p n) (2 ^ n) 0
 unfolding mask
 mask_more p n = rw add-one
-
-same_loss : (s a b c x y z : ℕ) → a ≡ x → b ≡ y → c ≡ z
-    → ◌≡◌ {A = Loss} (record { stripe = s; gone = a; behind = b; unreadable = c }) (record { stripe = s; gone = x; behind = y; unreadable = z })
-same_loss s a b c x y z p q r = cc
 
 pub loss_none : (M : Members) (F : Frontiers) (s : ℕ) → record { stripe = s; gone = 0; behind = 0; unreadable = 0 } ≡ loss_of M F 0 s
 unfolding loss_of mask
@@ -57,8 +48,7 @@ pub loss_more : (M : Members) (F : Frontiers) (n s : ℕ) → loss_of M F (n + 1
   unreadable = (loss_of M F n s).unreadable + cond (is_unreadable (status M F s n)) (2 ^ n) 0;
 }
 unfolding loss_of
-loss_more M F n s =
-    same_loss s _ _ _ _ _ _ (mask_more (λ i. is_gone (status M F s i)) n) (mask_more (λ i. is_behind (status M F s i)) n) (mask_more (λ i. is_unreadable (status M F s i)) n)
+loss_more M F n s = cc (mask_more (λ i. is_gone (status M F s i)) n, mask_more (λ i. is_behind (status M F s i)) n, mask_more (λ i. is_unreadable (status M F s i)) n)
 
 -- ---- the bits of a mask
 power_next : (n : ℕ) → 2 ^ (n + 1) ≡ 2 ^ n * 2
@@ -135,9 +125,9 @@ set_only p n i e =
     ⊎_elim
     (λ (l : i < n). ⊎_elim
     (λ (q : p i ≡ true). (l, q))
-    (λ (q : p i ≡ false). let z : ◌≡◌ {A = ℕ} 0 1 = sym (cond-false _ _ _ q) ∙ sym (mask_in p n i l) ∙ e in absurd (omega arith))
+    (λ (q : p i ≡ false). absurd (cc (mask_in p n i l)))
     (cases_Bool (p i)))
-    (λ (l : n ≤ i). let z : ◌≡◌ {A = ℕ} 0 1 = sym (mask_out p n i l) ∙ e in absurd (omega arith))
+    (λ (l : n ≤ i). absurd (cc (mask_out p n i l)))
     (cases_lt i n)
 
 pub set_if : (p : ℕ → Bool) (n i : ℕ) → i < n → p i ≡ true → Set (mask p n) i

@@ -1,5 +1,5 @@
 -- What a write, or its absence, makes of a member's column.
-use Rattle.std.proofs.Common.{◌≡◌, ℕ, ◌<◌, Bool, true, false, cond, ltb, ◌⊎◌, List, length, Some, None, Option, sym, refl, ap, ◌∙◌, subst, ap₂, inl, inr, ⊎_elim, arith}
+use Rattle.std.proofs.Common.{◌≡◌, ℕ, ◌<◌, Bool, true, false, cond, ltb, ◌⊎◌, List, length, Some, None, Option, sym, refl, ap, ◌∙◌, subst, ap₂, inl, inr, ⊎_elim}
 use Rattle.std.proofs.lemmas.Bool.{cond-true, cond-false, lt-ltb, eq-eqb, cases_Bool, cases_eq}
 use Rattle.code.specs.Blocks.{block_size}
 use Rattle.parity.specs.Stripe.{Holds}
@@ -42,10 +42,6 @@ written_others m b v n w u l ne =
 module _ (m : Meaning) (b : ℕ) (v : List ℕ) (n : Meaning) (l : b < m.count) (long : length v ≡ block_size) where
   pub write_refusal_is : write_refusal m b (length v) ≡ put_refusal m b
   write_refusal_is = cond-true _ _ _ (eq-eqb (length v) block_size long) ∙ cond-true _ _ _ (lt-ltb b m.count l)
-
-  -- a member that is gone keeps its meaning
-  pub written_absent : Written m b v n → m.gone ≡ true → n ≡ m
-  written_absent w g = w.refused _ (write_refusal_is ∙ cond-true _ _ _ g) (λ (e : ◌≡◌ {A = ℕ} 1 3). omega arith)
 
   -- a present one holds v there, or the block is unreadable
   pub written_present : Written m b v n → m.gone ≡ false → (n.block b ≡ Some v) ⊎ (n.block b ≡ None)

@@ -20,10 +20,10 @@ answer_by sized below lost t = cond sized (cond below (cond lost (Err t) (Ok tt)
 
 -- an answered read met no check
 answered_by : (sized below lost : Bool) (t : Told) → answer_by sized below lost t ≡ Ok tt → (below ≡ true) × (lost ≡ false)
-answered_by true true true t e = let z : ◌≡◌ {A = ℕ} 0 1 = cc in absurd (omega arith)
+answered_by true true true t e = absurd cc
 answered_by true true false t e = (refl, refl)
-answered_by true false lost t e = let z : ◌≡◌ {A = ℕ} 0 1 = cc in absurd (omega arith)
-answered_by false below lost t e = let z : ◌≡◌ {A = ℕ} 0 1 = cc in absurd (omega arith)
+answered_by true false lost t e = absurd cc
+answered_by false below lost t e = absurd cc
 
 -- one refused with 4 met that check
 lost_by : (sized below lost : Bool) (t : Told) → ◌≡◌ {A = ℕ} (refusal_number (answer_by sized below lost t)) 4 → (below ≡ true) × (lost ≡ true)

@@ -1,6 +1,6 @@
 -- What fits goes on fitting over replacements and rebuilds.
 use Rattle.std.proofs.Common.{◌≡◌, ℕ, ◌+◌, ◌<◌, ◌≤◌, Bool, true, false, cond, not, ◌&&◌, ltb, ◌⊎◌, List, length, is_ok, Some, None, Err, Option, Result, sym, refl, ap, ◌∙◌, subst, ap₂, inl, inr, ⊎_elim, arith}
-use Rattle.std.proofs.lemmas.Bool.{cases_eq, cond-true, cond-false, eq-eqb, ne_eqb, ltb-true, ltb-false, lt-ltb, le-ltb, and_parts, not-true, true≢false}
+use Rattle.std.proofs.lemmas.Bool.{cases_eq, cond_both, cond-true, cond-false, eq-eqb, ne_eqb, ltb-true, ltb-false, lt-ltb, le-ltb, and_parts, not-true, true≢false}
 use Rattle.code.specs.Blocks.{block_size}
 use Rattle.parity.specs.Stripe.{Holds}
 use Rattle.member.specs.Faults as member
@@ -67,16 +67,12 @@ module _ (V : Shape) (L : Valid V) where
   pub frontiers_kept : (M N : Members) (F G : Frontiers) → N ≡ M → ((j : ℕ) → G j ≡ F j) → (c : ℕ → List ℕ) → FitsVolume V M F c → FitsVolume V N G c
   frontiers_kept M N F G e h c f = kept_fits M N F G c f (λ s j ls l. inl (held_with M N F G s j (ap (λ (A : Members). A j) e) (h j)))
 
--- ---- open and close
-open_stays : (S : ℕ) (x : SlotState) (f : ℕ) → (after_by S x f Opened).frontier ≡ f
-open_stays S Idle f = by (ltb f S)
-  where
-    by : (b : Bool) → (cond b (open_at f) (idle_at f)).frontier ≡ f
-    by true = refl
-    by false = refl
+-- ---- open and close: a rebuild that begins or ends leaves the frontier where it is
+pub open_stays : (S : ℕ) (x : SlotState) (f : ℕ) → (after_by S x f Opened).frontier ≡ f
+open_stays S Idle f = cond_both (ltb f S) (open_at f) (idle_at f) (λ (r : SlotRecord). r.frontier ≡ f) (λ _. refl) (λ _. refl)
 open_stays S Open f = refl
 
-close_stays : (S : ℕ) (x : SlotState) (f : ℕ) → (after_by S x f Closed).frontier ≡ f
+pub close_stays : (S : ℕ) (x : SlotState) (f : ℕ) → (after_by S x f Closed).frontier ≡ f
 close_stays S Idle f = refl
 close_stays S Open f = refl
 

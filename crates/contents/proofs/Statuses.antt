@@ -1,10 +1,14 @@
 -- How a column stands, by its member and its slot's frontier.
-use Rattle.std.proofs.Common.{◌≡◌, ℕ, ◌<◌, ◌≤◌, Bool, true, false, cond, ltb, List, is_some, Some, None, Option, sym, refl, ap, ◌∙◌}
-use Rattle.std.proofs.lemmas.Bool.{cond-true, cond-false, lt-ltb, le-ltb, false≢true}
+use Rattle.std.proofs.Common.{◌≡◌, ℕ, ◌<◌, Bool, true, false, cond, ltb, List, is_some, Some, None, Option, sym, refl, ap, ◌∙◌}
+use Rattle.std.proofs.lemmas.Bool.{cond-true, cond-false, lt-ltb, false≢true}
 use Rattle.parity.specs.Stripe.{Holds}
 use Rattle.contents.specs.declared.Status.{Status}
 use Rattle.contents.specs.declared.Status.TheVariants.{Current, Gone, Behind, Unreadable}
 use Rattle.contents.specs.Columns.{Members, Frontiers, status, held, is_current, is_unreadable}
+
+pub none_of : {A : Type 0} (o : Option A) → is_some o ≡ false → o ≡ None
+none_of None e = refl
+none_of (Some x) e = absurd cc
 
 -- by gone, below the frontier, and the block
 abbrev pub status_by : Bool → Bool → Option (List ℕ) → Status
@@ -24,11 +28,6 @@ current_by true b o = refl
 current_by false false o = refl
 current_by false true None = refl
 current_by false true (Some x) = refl
-
-pub shown_none : (g b : Bool) → shown g b None ≡ None
-shown_none true b = refl
-shown_none false true = refl
-shown_none false false = refl
 
 pub shown_holds : (g b : Bool) (o : Option (List ℕ)) (v : List ℕ) → Holds o v → Holds (shown g b o) v
 shown_holds true b o v h = tt
@@ -55,16 +54,7 @@ module _ (M : Members) (F : Frontiers) (s i : ℕ) where
   unfolding held status
   current_is = current_by (M i).gone (ltb s (F i)) ((M i).block s)
 
-  -- ---- each status, from what a look tells
-  pub status_gone : (M i).gone ≡ true → status M F s i ≡ Gone
-  status_gone g = status_is ∙ cond-true _ _ _ g
-
-  pub status_behind : (M i).gone ≡ false → F i ≤ s → status M F s i ≡ Behind
-  status_behind g l = status_is ∙ cond-false _ _ _ g ∙ cond-false _ _ _ (le-ltb s (F i) l)
-
-  pub status_unreadable : (M i).gone ≡ false → s < F i → is_some ((M i).block s) ≡ false → status M F s i ≡ Unreadable
-  status_unreadable g l o = status_is ∙ cond-false _ _ _ g ∙ cond-true _ _ _ (lt-ltb s (F i) l) ∙ cond-false _ _ _ o
-
+  -- a present member with a readable block below the frontier is current
   pub status_current : (M i).gone ≡ false → s < F i → is_some ((M i).block s) ≡ true → status M F s i ≡ Current
   status_current g l o = status_is ∙ cond-false _ _ _ g ∙ cond-true _ _ _ (lt-ltb s (F i) l) ∙ cond-true _ _ _ o
 

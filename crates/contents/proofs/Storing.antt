@@ -1,34 +1,10 @@
 -- From single writes to the changes of a whole call, for the code that makes them.
-use Rattle.std.proofs.Common.{◌≡◌, ℕ, ◌+◌, ◌<◌, ◌≤◌, Bool, true, false, cond, ltb, List, length, sym, refl, ap, ◌∙◌, subst, arith}
-use Rattle.std.proofs.lemmas.Bool.{true≢false, lt-ltb, le-ltb}
-use Rattle.code.specs.Blocks.{block_size}
+use Rattle.std.proofs.Common.{◌≡◌, ℕ, ◌+◌, ◌<◌, Bool, false, cond, ltb, List, sym, ap, ◌∙◌, subst, arith}
 use Rattle.member.specs.Meaning.{Meaning}
-use Rattle.member.specs.Changes.{Written}
 use Rattle.contents.specs.Columns.{Members, Frontiers}
 use Rattle.contents.specs.Shapes.{Shape, Valid, data_columns}
 use Rattle.contents.specs.Changes.{Moved, Put, due, new_P, new_Q, Stored, Spread}
-use Rattle.contents.proofs.Members.{written_absent}
 use Rattle.contents.proofs.Fitting.{width}
-
-module _ (M : Members) (F : Frontiers) (s i : ℕ) (v : List ℕ) where
-  -- a write was made, to a slot whose frontier is above s: a member that is gone kept its meaning
-  pub put_made : (n : Meaning) → s < F i → s < (M i).count → length v ≡ block_size → Written (M i) s v n → Put (due M F s i) s v (M i) n
-  put_made n above l long w = record {
-    written = λ _. w;
-    kept = λ d. written_absent (M i) s v n l long w (gone_of (M i).gone (ltb s (F i)) (lt-ltb s (F i) above) d);
-  }
-    where
-      gone_of : (g b : Bool) → b ≡ true → cond g false b ≡ false → g ≡ true
-      gone_of true b e d = refl
-      gone_of false b e d = absurd (true≢false (sym e ∙ d))
-
-  -- no write was made, since the frontier is not above s
-  pub put_skipped : F i ≤ s → Put (due M F s i) s v (M i) (M i)
-  put_skipped low = record { written = λ d. absurd (true≢false (sym d ∙ not_due (M i).gone (ltb s (F i)) (le-ltb s (F i) low))); kept = λ _. refl }
-    where
-      not_due : (g b : Bool) → b ≡ false → cond g false b ≡ false
-      not_due true b e = refl
-      not_due false b e = e
 
 -- whether a column is due is the same of members that are the same there
 pub due_same : (M A : Members) (F : Frontiers) (s i : ℕ) → A i ≡ M i → due A F s i ≡ due M F s i

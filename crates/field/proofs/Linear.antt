@@ -1,8 +1,9 @@
 -- The product is linear in each factor.
 use Rattle.std.proofs.Common.{◌≡◌, ℕ, zero, suc, ◌/◌, ◌%◌, ◌<◌, sym, refl, ap, ◌∙◌, ap₂, mod-lt, zero-lt-suc, arith, lit<}
 use lib.Bits.{bit_xor, xor_self, xor_zero_r, xor_lt, xor_shr, xor_mod}
+use Rattle.code.proofs.Blocks.{xor_four}
 use Rattle.field.specs.Field.{shifted, chosen, product}
-use Rattle.field.proofs.Steps.{exchange, shifted_xor, shifted_lt}
+use Rattle.field.proofs.Steps.{shifted_xor, shifted_lt}
 
 pub chosen_below : (d a w : ℕ) → 0 < w → a < w → chosen d a < w
 chosen_below zero a w p h = p
@@ -40,7 +41,7 @@ product_xor (suc n) a x y =
     ap₂ bit_xor
     (ap (λ d. chosen d a) (xor_mod x y 1) ∙ chosen_at (x % 2) (y % 2) a (mod-lt x (zero-lt-suc 1)) (mod-lt y (zero-lt-suc 1)))
     (ap (product n (shifted a)) (xor_shr x y 1) ∙ product_xor n (shifted a) (x / 2) (y / 2))
-    ∙ exchange (chosen (x % 2) a) (chosen (y % 2) a) (product n (shifted a) (x / 2)) (product n (shifted a) (y / 2))
+    ∙ xor_four (chosen (x % 2) a) (chosen (y % 2) a) (product n (shifted a) (x / 2)) (product n (shifted a) (y / 2))
 
 -- linear in the first factor, at bytes
 pub xor_product : (n a b x : ℕ) → a < 256 → b < 256 → product n (bit_xor a b) x ≡ bit_xor (product n a x) (product n b x)
@@ -50,7 +51,7 @@ xor_product (suc n) a b x ha hb =
     ap₂ bit_xor
     (chosen_xor (x % 2) a b)
     (ap (λ s. product n s (x / 2)) (shifted_xor a b ha hb) ∙ xor_product n (shifted a) (shifted b) (x / 2) (shifted_lt a ha) (shifted_lt b hb))
-    ∙ exchange (chosen (x % 2) a) (chosen (x % 2) b) (product n (shifted a) (x / 2)) (product n (shifted b) (x / 2))
+    ∙ xor_four (chosen (x % 2) a) (chosen (x % 2) b) (product n (shifted a) (x / 2)) (product n (shifted b) (x / 2))
 
 -- a shift of a factor is a shift of the product
 pub product_shifted : (n a x : ℕ) → a < 256 → product n (shifted a) x ≡ shifted (product n a x)

@@ -5,7 +5,6 @@ use Rattle.std.proofs.lemmas.Nat.{div-add-mod'}
 use Rattle.std.proofs.lemmas.Bool.{cases_lt, cases_order}
 use Rattle.field.specs.Field.{shifted, product, times, power}
 use Rattle.field.specs.Terms.{shifts}
-use Rattle.field.proofs.Steps.{shifted_lt}
 use Rattle.field.proofs.Linear.{product_lt, product_xor, xor_product, product_shifted}
 use Rattle.field.proofs.Tests.{absent, times_two, times_one, none_back, last_back}
 
@@ -48,11 +47,6 @@ shift_add (suc m) n a = ap (λ k. shift_by k a) (suc-add m n) ∙ ap shifted (sh
 
 shift_swap : (m n a : ℕ) → shift_by m (shift_by n a) ≡ shift_by n (shift_by m a)
 shift_swap m n a = sym (shift_add m n a) ∙ ap (λ k. shift_by k a) (omega arith) ∙ shift_add n m a
-
-pub shift_lt : (n a : ℕ) → a < 256 → shift_by n a < 256
-unfolding shift_by
-shift_lt zero a h = h
-shift_lt (suc n) a h = shifted_lt (shift_by n a) (shift_lt n a h)
 
 pub length_shifts : (n a : ℕ) → length (shifts n a) ≡ n
 unfolding shifts

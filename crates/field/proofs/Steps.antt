@@ -4,15 +4,9 @@ use native.Mathlib.Nat.{mul-div-mul_right, pow-succ'}
 use lib.Bits.{bit_xor, xor_assoc, xor_comm, xor_self, xor_zero_r, xor_lt, xor_shr, xor_block}
 use Rattle.std.proofs.lemmas.Nat.{pow_pos, pow-add, div_below, le-div}
 use Rattle.std.proofs.lemmas.Bool.{cases_lt, lt-ltb, le-ltb}
+use Rattle.code.proofs.Blocks.{xor_four}
 use Rattle.field.specs.Field.{shifted}
 use Rattle.field.specs.Division.{step}
-
--- (a ⊕ b) ⊕ (c ⊕ d) with the middle two exchanged
-pub exchange : (a b c d : ℕ) → bit_xor (bit_xor a b) (bit_xor c d) ≡ bit_xor (bit_xor a c) (bit_xor b d)
-exchange a b c d =
-    xor_assoc a b (bit_xor c d)
-    ∙ ap (bit_xor a) (sym (xor_assoc b c d) ∙ ap (λ x. bit_xor x d) (xor_comm b c) ∙ xor_assoc c b d)
-    ∙ sym (xor_assoc a c (bit_xor b d))
 
 twice_xor : (a b : ℕ) → bit_xor a b * 2 ≡ bit_xor (a * 2) (b * 2)
 twice_xor a b = sym (simp add-zero at (xor_block 1 a b 0 0 (lit< tt) (lit< tt)))
@@ -92,7 +86,7 @@ step_by n c d hc hd (inr p) (inr q) =
     let m = 0x11D * 2 ^ n in
     let top = sum_top n c d 1 1 (high_top c w (pow_pos (8 + n)) p hc) (high_top d w (pow_pos (8 + n)) q hd) in
     step_low n (bit_xor c d) (top_low (bit_xor c d) w (pow_pos (8 + n)) top)
-    ∙ sym (ap₂ bit_xor (step_high n c p) (step_high n d q) ∙ exchange c m d m ∙ ap (bit_xor (bit_xor c d)) (xor_self m) ∙ xor_zero_r (bit_xor c d))
+    ∙ sym (ap₂ bit_xor (step_high n c p) (step_high n d q) ∙ xor_four c m d m ∙ ap (bit_xor (bit_xor c d)) (xor_self m) ∙ xor_zero_r (bit_xor c d))
 
 pub step_xor : (n c d : ℕ) → c < 2 * 2 ^ (8 + n) → d < 2 * 2 ^ (8 + n) → step n (bit_xor c d) ≡ bit_xor (step n c) (step n d)
 step_xor n c d hc hd = step_by n c d hc hd (cases_lt c (2 ^ (8 + n))) (cases_lt d (2 ^ (8 + n)))

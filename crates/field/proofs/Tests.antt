@@ -24,7 +24,7 @@ holds (x ∷ xs) b = eqb x b || holds xs b
 
 -- where it stands
 pub place : (xs : List ℕ) (b : ℕ) → holds xs b ≡ true → (k : ℕ) × (k < length xs) × (get_or xs k 0 ≡ b)
-place [] b t = let z : ◌≡◌ {A = ℕ} 0 1 = cc in absurd (omega arith)
+place [] b t = absurd cc
 place (x ∷ xs) b t = elim (or_cases (eqb x b) (holds xs b) t) [
   | inl e ↦ (0, omega arith, eqb-true x b e)
   | inr e ↦ let p = place xs b e in (suc p.0, omega (arith, p.1), p.2)

@@ -47,19 +47,13 @@ level m n c h = record { count = c; height = h }
 written_by : (m : Meaning) (b : ℕ) (v : List ℕ) → (n : Meaning) × Written m b v n
 written_by m b v = go (write_refusal m b (length v)) refl
   where
-    some_of : (x y : Refusal) → ◌≡◌ {A = Option Refusal} (Some x) (Some y) → x ≡ y
-    some_of x y e = cc
-
-    not_none : (x : Refusal) → ◌≡◌ {A = Option Refusal} None (Some x) → ⊥
-    not_none x e = let z : ◌≡◌ {A = ℕ} 0 1 = cc in omega arith
-
     go : (o : Option Refusal) → write_refusal m b (length v) ≡ o → (n : Meaning) × Written m b v n
     go None e = (
       with_block m b (Some v),
       record {
         accepted = λ _. record { level = level m _ refl refl; gone = refl; here = block_same m b (Some v); others = λ k _ n. block_other m b (Some v) k n; costs = λ k _ w. w };
-        unwritable = λ f q _. absurd (not_none f (sym e ∙ q));
-        refused = λ f q _. absurd (not_none f (sym e ∙ q));
+        unwritable = λ f q _. absurd cc;
+        refused = λ f q _. absurd cc;
       },
     )
     go (Some x) e =
@@ -67,7 +61,7 @@ written_by m b v = go (write_refusal m b (length v)) refl
         (λ (three : x.cause ≡ 3). (
           with_block m b None,
           record {
-            accepted = λ q. absurd (not_none x (sym q ∙ e));
+            accepted = λ q. absurd cc;
             unwritable = λ f q _. record {
               level = level m _ refl refl;
               gone = refl;
@@ -76,14 +70,14 @@ written_by m b v = go (write_refusal m b (length v)) refl
               others = λ k _ n. block_other m b None k n;
               writable = λ k _. refl;
             };
-            refused = λ f q n. absurd (n (ap (λ (y : Refusal). y.cause) (some_of f x (sym q ∙ e)) ∙ three));
+            refused = λ f q n. let d : f ≡ x = cc in absurd (n (ap (λ (y : Refusal). y.cause) d ∙ three));
           },
         ))
         (λ (other : x.cause ≡ 3 → ⊥). (
           m,
           record {
-            accepted = λ q. absurd (not_none x (sym q ∙ e));
-            unwritable = λ f q t. absurd (other (ap (λ (y : Refusal). y.cause) (some_of x f (sym e ∙ q)) ∙ t));
+            accepted = λ q. absurd cc;
+            unwritable = λ f q t. let d : x ≡ f = cc in absurd (other (ap (λ (y : Refusal). y.cause) d ∙ t));
             refused = λ f q n. refl;
           },
         ))

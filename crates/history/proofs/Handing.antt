@@ -1,5 +1,5 @@
 -- Reads of a history: what is handed out is the block of every content that fits, and a refusal for loss hides two.
-use Rattle.std.proofs.Common.{◌≡◌, ℕ, ◌<◌, List, length, replicate, is_ok, Ok, Err, Result, sym, refl, ap, ◌∙◌, arith}
+use Rattle.std.proofs.Common.{◌≡◌, ℕ, ◌<◌, List, length, replicate, is_ok, Ok, Err, Result, sym, refl, ap, ◌∙◌}
 use Rattle.std.proofs.lemmas.List.{length-replicate}
 use Rattle.std.proofs.lemmas.Bool.{cond-true}
 use Rattle.code.specs.Blocks.{block_size}
@@ -19,15 +19,12 @@ use Rattle.history.specs.History.{RefusedWith, DifferAt, ReadRight}
 -- bytes are the answer of a read that meets no check
 given_by : (o : Result Unit Told) (x b : List ℕ) → answered (λ _. bytes x) o ≡ bytes b → (o ≡ Ok tt) × (x ≡ b)
 given_by (Ok u) x b e = (refl, cc)
-given_by (Err t) x b e = let z : ◌≡◌ {A = ℕ} 0 1 = cc in absurd (omega arith)
+given_by (Err t) x b e = absurd cc
 
 -- a refusal is the outcome's own, where no other answer is one
 pub refused_by : {U : Type 0} (f : U → Answer) → ((u : U) (t : Told) → f u ≡ refused t → ⊥) → (o : Result U Told) (t : Told) → answered f o ≡ refused t → o ≡ Err t
 refused_by f n (Ok u) t e = absurd (n u t e)
 refused_by f n (Err x) t e = cc
-
-pub not_bytes : (x : List ℕ) (u : Unit {0}) (t : Told) → bytes x ≡ refused t → ⊥
-not_bytes x u t e = let z : ◌≡◌ {A = ℕ} 0 1 = cc in omega arith
 
 -- ---- a read of block a
 module _ (V : Shape) (L : Valid V) (σ : State) (a len : ℕ) (r : Answer) (τ : State) (m : Makes V σ (read a len) r τ) where
@@ -49,7 +46,7 @@ module _ (V : Shape) (L : Valid V) (σ : State) (a len : ℕ) (r : Answer) (τ :
       sym ((reads V L M F).hands a old o c f) ∙ cond-true _ _ _ (ap is_ok o) ∙ g.1
 
   pub refused_read : (t : Told) → r ≡ refused t → read_outcome V M F a len ≡ Err t
-  refused_read t e = refused_by (λ _. bytes (recovered_at V M F (stripe_of V a) (column_of V a))) (not_bytes _) (read_outcome V M F a len) t (sym m.answer ∙ e)
+  refused_read t e = refused_by (λ _. bytes (recovered_at V M F (stripe_of V a) (column_of V a))) (λ u x d. cc) (read_outcome V M F a len) t (sym m.answer ∙ e)
 
   pub differ : RefusedWith 4 r → (c : ℕ → List ℕ) → Fits V σ c → DifferAt V σ a
   differ h c f =

@@ -14,12 +14,9 @@ Puts c a q r = (b : List ℕ) × ((q ≡ write a b) × (taken r ≡ true)) × (a
 abbrev Leaves : (ℕ → List ℕ) → ℕ → Call → Answer → Type 0
 Leaves c a q r = ((v : List ℕ) → (q ≡ write a v) × (taken r ≡ true) → ⊥) × (after c q r a ≡ c a)
 
-none : {A : Type 0} → ◌≡◌ {A = ℕ} 0 1 → A
-none e = absurd (omega arith)
-
 does : (c : ℕ → List ℕ) (a : ℕ) (q : Call) (r : Answer) → Puts c a q r ⊎ Leaves c a q r
-does c a tick r = inr ((λ v t. let e = t.0 in none cc), refl)
-does c a (read x len) r = inr ((λ v t. let e = t.0 in none cc), refl)
+does c a tick r = inr ((λ v t. let e = t.0 in cc), refl)
+does c a (read x len) r = inr ((λ v t. let e = t.0 in cc), refl)
 does c a (write x b) r =
     ⊎_elim
     (λ (p : taken r ≡ true).
@@ -29,12 +26,12 @@ does c a (write x b) r =
     (cases_eq a x))
     (λ (p : taken r ≡ false). inr ((λ v t. true≢false (sym t.1 ∙ p)), ap (λ (f : ℕ → List ℕ). f a) (cond-false _ _ _ p)))
     (cases_Bool (taken r))
-does c a (scrub s) r = inr ((λ v t. let e = t.0 in none cc), refl)
-does c a (replace i) r = inr ((λ v t. let e = t.0 in none cc), refl)
-does c a (open_slot i) r = inr ((λ v t. let e = t.0 in none cc), refl)
-does c a (step i) r = inr ((λ v t. let e = t.0 in none cc), refl)
-does c a (close i) r = inr ((λ v t. let e = t.0 in none cc), refl)
-does c a margin r = inr ((λ v t. let e = t.0 in none cc), refl)
+does c a (scrub s) r = inr ((λ v t. let e = t.0 in cc), refl)
+does c a (replace i) r = inr ((λ v t. let e = t.0 in cc), refl)
+does c a (open_slot i) r = inr ((λ v t. let e = t.0 in cc), refl)
+does c a (step i) r = inr ((λ v t. let e = t.0 in cc), refl)
+does c a (close i) r = inr ((λ v t. let e = t.0 in cc), refl)
+does c a margin r = inr ((λ v t. let e = t.0 in cc), refl)
 
 -- the last taken write stays the last over a call that is none
 last_more : (event : ℕ → Event) (j a : ℕ) (b : List ℕ) → LastWritten event j a b → ((v : List ℕ) → Takes (event j) a v → ⊥) → LastWritten event (suc j) a b

@@ -19,12 +19,6 @@ four_by : {U : Type 0} (f : U → Answer) (o : Result U Told) → ◌≡◌ {A =
 four_by f (Ok u) e = absurd (omega arith)
 four_by f (Err t) e = (t, refl, e)
 
-not_number : (u : ℕ) (t : Told) → number u ≡ refused t → ⊥
-not_number u t e = let z : ◌≡◌ {A = ℕ} 0 1 = cc in omega arith
-
-not_counts : (x : ℕ × ℕ × ℕ) (t : Told) → counts x.0 x.1 x.2 ≡ refused t → ⊥
-not_counts x t e = let z : ◌≡◌ {A = ℕ} 0 1 = cc in omega arith
-
 module _ (V : Shape) (σ τ : State) where
   -- an outcome that tells loss gives an answer that does
   tells_by : {U : Type 0} (s : ℕ) (f : U → Answer) → ((u : U) (t : Told) → f u ≡ refused t → ⊥) → (o : Result U Told) → theorems.TellsLoss V σ.members (frontiers σ.records) s o
@@ -39,18 +33,18 @@ module _ (V : Shape) (σ τ : State) where
   write_tells a v r lv la m =
       let M = σ.members in
       let F = frontiers σ.records in
-      tells_by (stripe_of V a) number not_number (write_outcome V M F a block_size τ.members) ((losses V M F).write a τ.members la) r
+      tells_by (stripe_of V a) number (λ u x d. cc) (write_outcome V M F a block_size τ.members) ((losses V M F).write a τ.members la) r
       (m.answer ∙ ap (λ (l : ℕ). answered number (write_outcome V M F a l τ.members)) lv)
 
   pub scrub_tells : (s : ℕ) (r : Answer) → s < V.stripes → Makes V σ (scrub s) r τ → TellsLoss V σ s r
   scrub_tells s r ls m =
       let M = σ.members in
       let F = frontiers σ.records in
-      tells_by s (λ (x : ℕ × ℕ × ℕ). counts x.0 x.1 x.2) not_counts (scrub_outcome V M F s) ((losses V M F).scrub s ls) r m.answer
+      tells_by s (λ (x : ℕ × ℕ × ℕ). counts x.0 x.1 x.2) (λ u x d. cc) (scrub_outcome V M F s) ((losses V M F).scrub s ls) r m.answer
 
   pub step_tells : (i : ℕ) (r : Answer) → open_here V σ.records i ≡ true → (σ.records i).frontier < V.stripes → Makes V σ (step i) r τ → TellsLoss V σ (σ.records i).frontier r
   step_tells i r o lf m =
-      tells_by (σ.records i).frontier number not_number (step_outcome V σ.members σ.records i) (rebuild_losses V σ.members σ.records i o lf) r m.answer
+      tells_by (σ.records i).frontier number (λ u x d. cc) (step_outcome V σ.members σ.records i) (rebuild_losses V σ.members σ.records i o lf) r m.answer
 
   -- a torn write names what is missing after it
   pub torn : (a : ℕ) (v : List ℕ) (r : Answer) (t : Told) → Makes V σ (write a v) r τ → r ≡ refused t → ◌≡◌ {A = ℕ} t.number 5
@@ -58,6 +52,6 @@ module _ (V : Shape) (σ τ : State) where
   torn a v r t m e n =
       let M = σ.members in
       let F = frontiers σ.records in
-      let o = refused_by number not_number (write_outcome V M F a (length v) τ.members) t (sym m.answer ∙ e) in
+      let o = refused_by number (λ u x d. cc) (write_outcome V M F a (length v) τ.members) t (sym m.answer ∙ e) in
       subst (λ (R : Records). theorems.ThreeMissing V τ.members (frontiers R) (stripe_of V a) × theorems.Names V τ.members (frontiers R) (stripe_of V a) t) (sym m.changes.1)
       ((losses V M F).torn a (length v) τ.members t o n)

@@ -18,7 +18,7 @@ use Rattle.contents.specs.Theorems.{CountsKept}
 use Rattle.contents.specs.Rebuilds.{event_records, step_outcome}
 use Rattle.contents.proofs.Keeping.{scrubs, ticks, formats}
 use Rattle.contents.proofs.Writing.{writes}
-use Rattle.contents.proofs.Rebuilding.{replaces, rebuilds, stays, frontiers_kept}
+use Rattle.contents.proofs.Rebuilding.{replaces, rebuilds, stays, frontiers_kept, open_stays, close_stays}
 use Rattle.history.specs.Calls.{State, Call, Answer, answered, Makes, Fits}
 use Rattle.history.specs.Calls.Call.{tick, read, write, scrub, replace, open_slot, step, close, margin}
 use Rattle.history.specs.Calls.Answer.{number}
@@ -47,15 +47,6 @@ event_within V R i e h j l =
     cond_both (ltb i V.slots) (with_record R i x) R (λ (Q : Records). (Q j).frontier ≤ V.stripes)
     (λ t. cond_both (eqb j i) x (R j) (λ (r : SlotRecord). r.frontier ≤ V.stripes) (λ _. after_within V.stripes (R i).state (R i).frontier e (h i (ltb-true i V.slots t))) (λ _. h j l))
     (λ _. h j l)
-
--- a rebuild that begins or ends leaves the frontier where it is
-opened_stays : (S : ℕ) (x : SlotState) (f : ℕ) → (after_by S x f Opened).frontier ≡ f
-opened_stays S Idle f = cond_both (ltb f S) (open_at f) (idle_at f) (λ (r : SlotRecord). r.frontier ≡ f) (λ _. refl) (λ _. refl)
-opened_stays S Open f = refl
-
-closed_stays : (S : ℕ) (x : SlotState) (f : ℕ) → (after_by S x f Closed).frontier ≡ f
-closed_stays S Idle f = refl
-closed_stays S Open f = refl
 
 -- ---- what holds of each state of a run, with the content c
 
@@ -119,11 +110,11 @@ module _ (V : Shape) (L : Valid V) (σ τ : State) (c : ℕ → List ℕ) (h : S
   by_call (replace i) r g m =
       let t = replaces V L σ.members σ.records i τ.members τ.records m.changes in
       by_event i Replaced true m.changes.records (t.0 c h.fits) t.1
-  by_call (open_slot i) r g m = turned i Opened (opened_stays V.stripes (σ.records i).state (σ.records i).frontier) m.changes
+  by_call (open_slot i) r g m = turned i Opened (open_stays V.stripes (σ.records i).state (σ.records i).frontier) m.changes
   by_call (step i) r g m =
       let t = rebuilds V L σ.members σ.records h.roomy i τ.members τ.records m.changes in
       by_event i Stepped (is_ok (step_outcome V σ.members σ.records i)) m.changes.records (t.0 c h.fits) t.1
-  by_call (close i) r g m = turned i Closed (closed_stays V.stripes (σ.records i).state (σ.records i).frontier) m.changes
+  by_call (close i) r g m = turned i Closed (close_stays V.stripes (σ.records i).state (σ.records i).frontier) m.changes
   by_call margin r g m = left m.changes
 
 from_format : (V : Shape) → Valid V → (σ : State) → Formatted V σ → Stands V σ (λ _. zeros)

@@ -1,9 +1,11 @@
 -- The three kinds of column: data, P and Q.
-use Rattle.std.proofs.Common.{◌≡◌, ℕ, ◌+◌, ◌<◌, ◌≤◌, cond, List, is_some, Some, None, Option, refl, ◌∙◌, ⊎_elim, arith}
+use Rattle.std.proofs.Common.{◌≡◌, ℕ, ◌+◌, ◌<◌, ◌≤◌, cond, List, is_some, Some, None, Option, sym, refl, ap, ◌∙◌, ⊎_elim, arith}
 use Rattle.std.proofs.lemmas.Bool.{cond-true, cond-false, cases_eq, cases_lt, lt-ltb, le-ltb, le-leb, lt-leb, eq-eqb, ne_eqb}
-use Rattle.code.specs.Blocks.{zeros}
-use Rattle.code.specs.Codes.{Coding}
+use Rattle.code.specs.Blocks.{block_size, zeros}
+use Rattle.code.specs.Codes.{Coding, Lawful}
+use Rattle.code.proofs.Blocks.{xor, block_zeros, zeros_zeros}
 use Rattle.parity.specs.Stripe.{sum, column, Holds, plain_part, mixed_part, if_present}
+use Rattle.parity.proofs.Sums.{sum_cong}
 
 pub data Kind (k t : ℕ) : Type 0 where
   is_data : t < k → Kind k t
@@ -28,6 +30,21 @@ column_P C k c t e = cond-false _ _ _ (le-ltb t k (omega arith)) ∙ cond-true _
 pub column_Q : (C : Coding) (k : ℕ) (c : ℕ → List ℕ) (t : ℕ) → t ≡ k + 1 → column C k c t ≡ sum k (λ j. C.mix j (c j))
 unfolding column
 column_Q C k c t e = cond-false _ _ _ (le-ltb t k (omega arith)) ∙ cond-false _ _ _ (ne_eqb t k (omega arith))
+
+-- a column is given by the data columns alone
+pub column_cong : (C : Coding) (k : ℕ) (c d : ℕ → List ℕ) → ((i : ℕ) → i < k → c i ≡ d i) → (t : ℕ) → t < k + 2 → column C k c t ≡ column C k d t
+column_cong C k c d h t l =
+    elim (kind k t l) [
+      | is_data m ↦ column_data C k c t m ∙ h t m ∙ sym (column_data C k d t m)
+      | is_P e ↦ column_P C k c t e ∙ sum_cong k c d h ∙ sym (column_P C k d t e)
+      | is_Q e ↦ column_Q C k c t e ∙ sum_cong k (λ j. C.mix j (c j)) (λ j. C.mix j (d j)) (λ i m. ap (C.mix i) (h i m)) ∙ sym (column_Q C k d t e)
+    ]
+
+-- a mixing of zeros is zeros
+pub mix_zeros : (C : Coding) → Lawful block_size C → (k : ℕ) → k ≤ C.limit → (j : ℕ) → j < k → C.mix j zeros ≡ zeros
+mix_zeros C L k kw j l =
+    let b = (L.single j (omega arith)).there zeros block_zeros in
+    sym (ap (C.mix j) zeros_zeros) ∙ L.linear j (omega arith) zeros zeros block_zeros block_zeros ∙ simp xor
 
 -- ---- what each adds to the two sums
 pub plain_low : (k t : ℕ) (b : List ℕ) → t ≤ k → plain_part k t b ≡ b

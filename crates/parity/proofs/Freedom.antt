@@ -8,7 +8,7 @@ use Rattle.code.proofs.Blocks.{xor, block_add, block_zeros, zeros_zeros, add_zer
 use Rattle.parity.specs.Stripe.{Content, Holds, Fits, column, sum, gaps}
 use Rattle.parity.specs.Theorems.{Free}
 use Rattle.parity.proofs.Sums.{sum_add, sum_cong, sum_block, alone, alone_sum, put_same, put_other, put_block}
-use Rattle.parity.proofs.Columns.{kind, is_data, is_P, is_Q, column_data, column_P, column_Q}
+use Rattle.parity.proofs.Columns.{kind, is_data, is_P, is_Q, column_data, column_P, column_Q, mix_zeros}
 use Rattle.parity.proofs.Gaps.{gaps_first, missing_parts}
 
 -- other missing data columns
@@ -52,16 +52,11 @@ holds_to None x y e h = tt
 holds_to (Some a) x y e h = h ∙ e refl
 
 module _ (C : Coding) (L : Lawful block_size C) (k : ℕ) (kw : k ≤ C.limit) where
-  mix_zeros : (j : ℕ) → j < k → C.mix j zeros ≡ zeros
-  mix_zeros j l =
-      let b = (L.single j (omega arith)).there zeros block_zeros in
-      sym (ap (C.mix j) zeros_zeros) ∙ L.linear j (omega arith) zeros zeros block_zeros block_zeros ∙ simp xor
-
   mix_alone : (i : ℕ) (x : List ℕ) (t : ℕ) → t < k → C.mix t (alone i x t) ≡ alone i (C.mix i x) t
   mix_alone i x t l =
       ⊎_elim
       (λ (e : t ≡ i). rw (eq-eqb t i e) (ap (λ n. C.mix n x) e))
-      (λ (n : t ≡ i → ⊥). rw (ne_eqb t i n) (mix_zeros t l))
+      (λ (n : t ≡ i → ⊥). rw (ne_eqb t i n) (mix_zeros C L k kw t l))
       (cases_eq t i)
 
   -- a difference at three columns
@@ -183,7 +178,7 @@ module _ (C : Coding) (L : Lawful block_size C) (k : ℕ) (kw : k ≤ C.limit) w
           freed i j i li lj li x y zeros bx by block_zeros hi oj.lost hi
           (put_other (λ _. zeros) j y i (λ e. oj.apart (sym e))) (zero_alone i i) nx
           (λ r. absurd (both_ways _ ep r))
-          (λ _. ap₂ (λ u v. C.mix i x ⊕ (u ⊕ v)) ((L.single j (omega arith)).redone (C.mix i x) bi) (mix_zeros i li) ∙ simp xor)
+          (λ _. ap₂ (λ u v. C.mix i x ⊕ (u ⊕ v)) ((L.single j (omega arith)).redone (C.mix i x) bi) (mix_zeros C L k kw i li) ∙ simp xor)
       free false false ep eq n =
           freed i i i li li li x zeros zeros bx block_zeros block_zeros hi hi hi (zero_alone i i) (zero_alone i i) nx
           (λ r. absurd (both_ways _ ep r))
@@ -202,7 +197,7 @@ one_is_block = record { long = ap suc (length-replicate {A = ℕ} 511 0); bytes 
 
 one_not_zeros : one_block ≡ zeros → ⊥
 unfolding zeros
-one_not_zeros e = let z : ◌≡◌ {A = ℕ} 1 0 = ap (λ b. get_or b 0 0) e in omega arith
+one_not_zeros e = cc
 
 pub free_column : Free
 free_column C L k kw cols c hc fit i li hi n =

@@ -17,7 +17,7 @@ gaps_more cols k = rw add-one
 -- the highest missing column, and those below it
 pub gaps_first : (cols : ℕ → Option (List ℕ)) (k i : ℕ) (l : List ℕ) → gaps cols k ≡ i ∷ l → (i < k) × (is_some (cols i) ≡ false) × (gaps cols i ≡ l)
 unfolding gaps
-gaps_first cols zero i l e = let z : ◌≡◌ {A = ℕ} 0 1 = cc in absurd (omega arith)
+gaps_first cols zero i l e = absurd cc
 gaps_first cols (suc k) i l e =
     ⊎_elim
     (λ p. let r = gaps_first cols k i l (sym (cond-true _ _ _ p) ∙ e) in (omega (arith, r.0), r.1, r.2))

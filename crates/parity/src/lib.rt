@@ -5,7 +5,7 @@ ghost use Rattle.parity.specs.Theorems.{Recovers, Unique, Free, Deltas, Writes};
 
 // How a lost column is found from the plain sum (the present data columns and P) and the mixed sum (their mixings and Q).
 // The numbers are data columns that are lost.
-#[derive(Clone, Copy)]
+#[derive(Clone, Copy, PartialEq, Eq, Debug)]
 pub enum Way {
     // the plain sum is the column: P, or the only lost data column where P is present
     Plain,

@@ -3,9 +3,10 @@ use Rattle.std.proofs.Common.{◌≡◌, ℕ, zero, suc, ◌+◌, ◌-◌, ◌*�
 use native.Mathlib.Nat.{mod-add-mod, add-mod_right}
 use lib.Bits.{bit_xor, xor_assoc, xor_self, xor_zero_r, xor_lt}
 use Rattle.std.proofs.lemmas.Bool.{cases_eq}
+use Rattle.code.proofs.Blocks.{xor_four}
 use Rattle.prime.specs.Rows.{xors}
 use Rattle.prime.specs.Diagonals.{solved, unadjusted}
-use Rattle.prime.proofs.Xors.{xor_four, xor_same_l, xors_same, xors_xor, xors_lt}
+use Rattle.prime.proofs.Xors.{xor_same_l, xors_same, xors_xor, xors_lt}
 use Rattle.prime.proofs.Shifts.{paired, paired_last, paired_one, closed_in, closed_end, solved_top, solved_paired, solved_lt}
 
 -- F is linear and looks at rows below p alone; G undoes it on the rows below p − 1

@@ -5,10 +5,10 @@ use native.Mathlib.Nat.{add-mod-mod, add-mod_right, mod_self, mod-mod}
 use lib.Bits.{bit_xor, xor_self, xor_zero_r}
 use Rattle.std.proofs.lemmas.Bool.{cases_eq, cases_Bool, eqb-true, eqb-false, cond-true, cond-false}
 use Rattle.code.specs.Codes.{Inverse, Lawful, pair}
+use Rattle.code.proofs.Blocks.{xor_four}
 use Rattle.prime.specs.Primes.{Prime}
 use Rattle.prime.specs.Rows.{cell, rows}
 use Rattle.prime.specs.Diagonals.{rdp, evenodd, inverse_below, gap, unpaired, unadjusted, DiagonalCodesAreLawful}
-use Rattle.prime.proofs.Xors.{xor_four}
 use Rattle.prime.proofs.Mods.{add_cong, mul_cong, inverse}
 use Rattle.prime.proofs.Shifts.{paired, turns}
 use Rattle.prime.proofs.Columns.{Column, adjusted, pair_column, even_odd_column, single_column, single, unsingle, end_row}

@@ -22,9 +22,6 @@ putMid_inside a k xs ys i h l m = search (rules, places)
 pub putMid_below : (a k : ℕ) (xs ys : List ℕ) (i : ℕ) → a + k ≤ length xs → length ys ≡ k → i < a → get_or (put_mid a k xs ys) i 0 ≡ get_or xs i 0
 putMid_below a k xs ys i h l m = search (rules, places)
 
-pub putMid_above : (a k : ℕ) (xs ys : List ℕ) (i : ℕ) → a + k ≤ length xs → length ys ≡ k → a + k ≤ i → get_or (put_mid a k xs ys) i 0 ≡ get_or xs i 0
-putMid_above a k xs ys i h l m = search (rules, places)
-
 pub length_putMid : (a k : ℕ) (xs ys : List ℕ) → a + k ≤ length xs → length ys ≡ k → length (put_mid a k xs ys) ≡ length xs
 length_putMid a k xs ys h l = search (rules, places)
 

@@ -1,17 +1,12 @@
 -- Laws of ⊕ over an index range.
 use Rattle.std.proofs.Common.{◌≡◌, ℕ, zero, suc, ◌^◌, ◌<◌, ◌≤◌, cond, eqb, ◌⊎◌, sym, refl, ap, ◌∙◌, inl, inr, arith, pow_pos}
-use lib.Bits.{bit_xor, xor_comm, xor_assoc, xor_self, xor_zero_r, xor_lt}
+use lib.Bits.{bit_xor, xor_assoc, xor_self, xor_zero_r, xor_lt}
 use Rattle.std.proofs.lemmas.Bool.{cases_eq, eq-eqb, ne_eqb}
+use Rattle.code.proofs.Blocks.{xor_four}
 use Rattle.prime.specs.Rows.{xors}
 
 pub xor_cancel : (a b : ℕ) → bit_xor a (bit_xor a b) ≡ b
 xor_cancel a b = sym (xor_assoc a a b) ∙ rw (xor_self a)
-
-pub xor_swap : (a b c : ℕ) → bit_xor a (bit_xor b c) ≡ bit_xor b (bit_xor a c)
-xor_swap a b c = sym (xor_assoc a b c) ∙ ap (λ x. bit_xor x c) (xor_comm a b) ∙ xor_assoc b a c
-
-pub xor_four : (a b c d : ℕ) → bit_xor (bit_xor a b) (bit_xor c d) ≡ bit_xor (bit_xor a c) (bit_xor b d)
-xor_four a b c d = simp (xor_assoc, xor_swap)
 
 pub xor_same_l : (a x y : ℕ) → bit_xor a x ≡ bit_xor a y → x ≡ y
 xor_same_l a x y h = sym (xor_cancel a x) ∙ ap (bit_xor a) h ∙ xor_cancel a y
