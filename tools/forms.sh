@@ -14,7 +14,7 @@ code '^ *pub fn [a-z_]+\((&self)?\) -> u8$' | show '1 a function that states a t
 code '^(pub |pub\(crate\) )?enum ' | show '1 enums of our own'
 code '\((u8|bool), usize\)' | show '1 a number or flag with a value beside it'
 code 'Ok\(\(\)\) => Ok\(\(\)\)|Err\((fault|refusal)\) => Err\((fault|refusal)\)|Err\(_\) => Err|Err\(refusal\) => (return )?(Answer|refused|Some)' | show '1 a Result taken apart by hand'
-code 'match (code_number|number|self\.number)|\.number\(\) ==' | show '1 a number for a kind'
+code 'match (code_number|number|self\.number|operation\.number)|\.number\(\) ==' | show '1 a number for a kind'
 src | xargs grep -ohE '^ *(pub |pub\(crate\) )?fn [a-z_0-9]+' | sed -E 's/.*fn //' | sort | uniq -c | awk '$1 > 1 {print $2 " " $1}' | show '2 names of functions that stand more than once'
 code '^ *for .* in .*\.\.|^ *(let .* = )?while |^ *loop ' | show '3 loops that count or go on by hand'
 code 'fn (number|of|raised|lifted|digit|digit_of|is_current|tells_gone|if_gone|absent|nothing|plain|numbered|counted|code_number)\b' | show '4 conversions and comparisons written by hand'
@@ -32,7 +32,7 @@ for f in sorted(glob.glob('crates/*/src/**/*.rt', recursive=True)):
 P
 code '^ *(pub )?[a-z]+: \[[A-Za-z0-9]+; [A-Z0-9_]+\],' | show '6 arrays of a fixed size in a struct'
 code ': &(mut )?\[\[u8; BLOCK\]\],$|present: &\[bool\]' | show '6 lists beside one another'
-code 'match (\*step|call|operation\.act\(\)|script\.code\(\)|code_number\(task\)) ' | show '7 switches on what to do'
+code 'match (\*step|call|operation\.act\(\)|Act::from\(operation\)|script\.code\(\)|code_number\(task\)|CodeName::try_from\(.*\)) ' | show '7 switches on what to do'
 code 'fn\(|dyn |impl Fn|: Fn' | show '7 closures, dyn and tables of functions'
 printf '%-62s %s\n' '8 lines in proofs/' "$(cat crates/*/proofs/*.antt crates/*/proofs/*/*.antt crates/*/proofs/*/*/*.antt crates/*/proofs/*/*/*/*.antt 2>/dev/null | wc -l)"
 printf '%-62s %s\n' '8 answers' "$(find crates/*/proofs -name Answers.antt | xargs grep -hE '^pub ' | wc -l)"
