@@ -14,6 +14,16 @@ pub struct Link<M, B> {
     pub rest: B,
 }
 
+impl<M: Member, B: Bank> Link<M, B> {
+    // The member before the bank.
+    pub fn new(first: M, rest: B) -> Link<M, B>
+        ensures first { result.first ≡ first }
+        ensures rest { result.rest ≡ rest }
+    {
+        Link { first, rest }
+    }
+}
+
 impl<M: Member, B: Bank> Bank for Link<M, B> {
     ghost State = { Linked M.Member.State B.Bank.State };
 

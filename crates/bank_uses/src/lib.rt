@@ -14,7 +14,8 @@ use member::Member;
 use member::cell::Cell;
 use shelf::Shelf;
 
-// Writes three blocks to three slots of any bank, which have to be distinct: nothing is written otherwise.
+// Writes three blocks to three slots of any bank, which have to be distinct: nothing is written otherwise. It answers whether it
+// wrote, and no `Result`: an `Ok` would say that the bank accepted the writes, which it need not.
 pub fn write_three<B: Bank>(
     bank: &mut B,
     slots: (usize, usize, usize),

@@ -1,5 +1,6 @@
 -- The table of planned faults, and what becomes of it.
-use Rattle.std.specs.Prelude.{◌≡◌, ℕ, ◌+◌, Bool, false, cond, ◌||◌, List, [], ◌∷◌, map, replicate, Ok, Err, Result, ◌==◌, nat_lt, slice_set}
+use Rattle.std.specs.Prelude.{◌≡◌, ℕ, ◌+◌, Bool, false, cond, List, map, replicate, Ok, Err, Result, ◌==◌, nat_lt, slice_set}
+use Rattle.std.specs.List.{list_any}
 use Rattle.faultplan.specs.declared.entry.Kind.{Kind}
 use Rattle.faultplan.specs.declared.entry.Kind.TheVariants.{Other}
 use Rattle.faultplan.specs.declared.entry.Phase.TheVariants.{Waiting, Active, Ended}
@@ -63,8 +64,7 @@ abbrev pub advanced : Plan → Plan
 advanced p = cond (nat_lt p.round last_round) (told (Round (p.round + 1)) (at_round (p.round + 1) p)) p
 
 abbrev pub any : (Entry → Bool) → List Entry → Bool
-any p [] = false
-any p (e ∷ es) = p e || any p es
+any p es = list_any p es
 
 -- whether some entry makes a check fail
 abbrev pub failed : Check → Plan → Bool

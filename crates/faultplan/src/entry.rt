@@ -59,7 +59,7 @@ pub struct Entry {
     pub phase: Phase,
 }
 
-// The kind with this number.
+// The kind with this number. It is no `TryFrom`: other kinds do nothing, so every number is a kind.
 impl From<usize> for Kind {
     ghost from_gives = { λ n k. k ≡ kind_of n };
 

@@ -1,7 +1,7 @@
 // The table of a fault layer: at most sixteen planned faults, and the count of ticks.
 ghost use Rattle.std.specs.Prelude.{◌≡◌, map, Some, decimal};
-ghost use Rattle.faultplan.specs.Entries.{after, fails};
-ghost use Rattle.faultplan.specs.Plans.{plan_number, add_answer, room_answer, any, failed, empty, with_entry, told, advanced, EndedForGood};
+ghost use Rattle.faultplan.specs.Entries.{after};
+ghost use Rattle.faultplan.specs.Plans.{plan_number, add_answer, room_answer, failed, empty, with_entry, told, advanced, EndedForGood};
 
 use crate::entry::{Check, Entry, Event, Kind, Phase};
 use std::error::Error;
@@ -33,7 +33,7 @@ impl fmt::Display for PlanRefusal {
 impl Error for PlanRefusal {}
 
 impl PlanRefusal {
-    // The number by which the refusal is known: a method with a name, as of a cause.
+    // The number by which the refusal is known. It has a name and is no `From`, as of `Cause`: a `u8` alone does not say what it counts.
     pub fn number(self) -> u8
         ensures value { result ≡ plan_number self }
     {
@@ -52,25 +52,13 @@ pub struct Plan {
     round: usize,
 }
 
-// Tells every entry in turn of an event. This and the search below go over the entries by `for`, which is a rule of the project.
+// Tells every entry of an event: a tick goes to every entry in the list in turn, by a `for` loop.
 fn tell_each(entries: &mut [Entry; PLACES], event: Event)
     ensures after { entries.new ≡ map (after event) entries.old }
 {
     for entry in entries.iter_mut() {
         *entry = entry.after(event);
     }
-}
-
-// Whether some entry makes a check fail.
-fn any_fails(entries: &[Entry; PLACES], check: Check) -> bool
-    ensures value { result ≡ any (fails check) entries.now }
-{
-    for entry in entries {
-        if entry.fails(check) {
-            return true;
-        }
-    }
-    false
 }
 
 impl Plan {
@@ -136,7 +124,7 @@ impl Plan {
     pub fn fails(&self, check: Check) -> bool
         ensures value { result ≡ failed check self.now }
     {
-        any_fails(&self.entries, check)
+        self.entries.iter().any(|entry| entry.fails(check))
     }
 }
 

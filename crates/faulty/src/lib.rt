@@ -67,23 +67,20 @@ impl<M: Member> FaultLayer<M> {
     {
         self.plan.add(round, Kind::from(kind), block)
     }
-}
 
-impl<M: Member> FaultLayer<M> {
     // A fault of this layer's own.
     fn own(&self, cause: Cause, block: usize) -> Fault
         ensures value { numbers result ≡ raised cause (own_origin (M.Member.meaning (M.Member.state self.now.below)) block) }
     {
-        let lower = self.below.height();
         Fault {
             cause,
-            height: lower.saturating_add(1),
+            height: self.height(),
             block,
         }
     }
 
-    // Refuses a call on a block that is not to go below, by the check that it asks for. The block stands beside the check, since a check
-    // that the member is present names none.
+    // Refuses a call on a block that is not to go below, by the check that it asks for. The block stands beside the check: to take it
+    // from the check would need a second enum, of those checks that name a block.
     fn withhold(&self, check: Check, at: usize) -> Result<(), Fault>
         requires there { at < (M.Member.meaning (M.Member.state self.now.below)).count }
         ensures answered { refusal result ≡ withheld self.now.plan (M.Member.meaning (M.Member.state self.now.below)) check at }

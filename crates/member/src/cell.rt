@@ -1,6 +1,6 @@
 // A member with eight blocks of its own, zeros at first. It is always present, readable and writable. A cell and an image are two
-// kinds: what they share is in `run`, and a kind for both would have a trait with what differs, the bytes, the most blocks, the
-// laws and `fresh`, for one line less in each method.
+// kinds: one generic kind would save the second impl of `Member`, seven methods of a line each, and cost a trait of four members
+// (the bytes, the bytes to write, the most blocks, fresh) with their laws, and two impls of it.
 ghost use Rattle.std.specs.Prelude.{◌≡◌, ℕ, ◌<◌, List, length, slice_index};
 ghost use Rattle.member.specs.Runs.{cell_bytes, cell_sound, cell_meaning, cell_wrote, cell_zeros};
 ghost use Rattle.member.specs.RunsLemmas.{cell_lawful};

@@ -19,7 +19,7 @@ impl Image {
     pub fn new(buffer: Vec<u8>) -> Image
         ensures state { result.buffer ≡ buffer }
     {
-        Self { buffer }
+        Image { buffer }
     }
 
     // The buffer, with what was written.

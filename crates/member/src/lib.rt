@@ -89,10 +89,7 @@ impl Error for Fault {}
 pub fn refused_with(answer: &Result<(), Fault>, cause: Cause) -> bool
     ensures value { result ≡ refused_with (cause_number cause) (refusal answer.now) }
 {
-    match answer {
-        Ok(()) => false,
-        Err(fault) => fault.cause == cause,
-    }
+    answer.as_ref().is_err_and(|fault| fault.cause == cause)
 }
 
 // Refuses, for a member of this height with so many blocks, a buffer of so many bytes that is not a block's, and then a block that

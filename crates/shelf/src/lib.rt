@@ -37,9 +37,7 @@ impl Shelf {
         let Shelf { buffer, images: _ } = self;
         buffer
     }
-}
 
-impl Shelf {
     // Refuses a slot that there is not, with the block asked, or 0 where none is asked.
     fn there(&self, slot: usize, block: usize) -> Result<(), BankFault>
         ensures answered { bank_refusal result ≡ (if nat_lt slot self.now.images then None else Some (no_slot block)) }

@@ -1,6 +1,6 @@
 // Banks of several kinds of members, and the buffers that they hand back.
 use crate::builds::{Stack, single, stack};
-use crate::calls::{Call, Step, drive, plan, push_buffer, push_heading, push_len};
+use crate::calls::{Call, Log, Step};
 use bank::chain::Link;
 use bank::empty::NoMembers;
 use faulty::FaultLayer;
@@ -8,7 +8,7 @@ use member::cell::Cell;
 use member::image::Image;
 use remap::Remap;
 use shelf::Shelf;
-use std::alloc::{AllocError, Global};
+use std::alloc::AllocError;
 
 // A stack over a cell, a stack over an image, and a shelf.
 type Mixed = Link<Stack<Cell>, Link<Stack<Image>, Shelf>>;
@@ -73,20 +73,14 @@ const MIXED: [Step; 51] = [
 ];
 
 // Remap layers that are asked for more spares than there can be.
-fn show_many_spares(heap: Global, out: &mut String) -> Result<(), AllocError> {
-    push_heading(
-        out,
+fn show_many_spares(log: &mut Log) -> Result<(), AllocError> {
+    log.push_heading(
         "100 spares count as 16: no block is left of a cell, and 4 of an image of 20 blocks",
     )?;
-    let image = Image::new(vec![in heap; 38; 10_240]?);
-    let mut bank = Link {
-        first: Remap::new(Cell::new(), 100),
-        rest: single(Remap::new(image, 100)),
-    };
-    push_len(out, &bank)?;
-    drive(
-        heap,
-        out,
+    let image = Image::new(log.bytes(38, 10_240)?);
+    let mut bank = Link::new(Remap::new(Cell::new(), 100), single(Remap::new(image, 100)));
+    log.push_len(&bank)?;
+    log.drive(
         &mut bank,
         &[
             Step::On(0, Call::Count),
@@ -100,29 +94,21 @@ fn show_many_spares(heap: Global, out: &mut String) -> Result<(), AllocError> {
 }
 
 // The bank of all kinds, with entries in both stacks.
-fn mixed(heap: Global, out: &mut String) -> Result<Mixed, AllocError> {
-    push_heading(
-        out,
+fn mixed(log: &mut Log) -> Result<Mixed, AllocError> {
+    log.push_heading(
         "a bank of a stack over a cell, a stack over an image of 4 blocks and 100 bytes, and a shelf of 3 images in 3700 bytes",
     )?;
     let mut on_cell = FaultLayer::new(Cell::new());
-    plan(out, &mut on_cell, &[(0, 3, 0)])?;
-    let mut on_image = FaultLayer::new(Image::new(vec![in heap; 40; 2148]?));
-    plan(out, &mut on_image, &[(0, 3, 1), (1, 1, 0)])?;
-    let images = Shelf::new(vec![in heap; 50; 3700]?, 3);
-    Ok(Link {
-        first: stack(on_cell),
-        rest: Link {
-            first: stack(on_image),
-            rest: images,
-        },
-    })
+    log.plan(&mut on_cell, &[(0, 3, 0)])?;
+    let mut on_image = FaultLayer::new(Image::new(log.bytes(40, 2148)?));
+    log.plan(&mut on_image, &[(0, 3, 1), (1, 1, 0)])?;
+    let images = Shelf::new(log.bytes(50, 3700)?, 3);
+    Ok(Link::new(stack(on_cell), Link::new(stack(on_image), images)))
 }
 
 // The buffers of the image and of the shelf, after all calls.
-fn show_buffers(out: &mut String, bank: Mixed) -> Result<(), AllocError> {
-    push_heading(
-        out,
+fn show_buffers(log: &mut Log, bank: Mixed) -> Result<(), AllocError> {
+    log.push_heading(
         "the buffers handed back, one byte of every 512: of the image, and of the shelf",
     )?;
     let Link {
@@ -133,29 +119,26 @@ fn show_buffers(out: &mut String, bank: Mixed) -> Result<(), AllocError> {
         },
     } = bank;
     let image = on_image.into_below().into_below().into_buffer();
-    push_buffer(out, &image)?;
-    push_buffer(out, &images.into_buffer())
+    log.push_buffer(&image)?;
+    log.push_buffer(&images.into_buffer())
 }
 
 // Banks in which no slot is there.
-fn show_without_slots(heap: Global, out: &mut String) -> Result<(), AllocError> {
-    push_heading(
-        out,
-        "banks without slots: a shelf of no images, and the end of a chain",
-    )?;
-    let mut no_images = Shelf::new(vec![in heap; 0; 512]?, 0);
-    push_len(out, &no_images)?;
-    drive(heap, out, &mut no_images, &[Step::On(0, Call::Look(1))])?;
-    push_len(out, &NoMembers)?;
-    drive(heap, out, &mut NoMembers, &[Step::On(0, Call::Look(2))])
+fn show_without_slots(log: &mut Log) -> Result<(), AllocError> {
+    log.push_heading("banks without slots: a shelf of no images, and the end of a chain")?;
+    let mut no_images = Shelf::new(log.bytes(0, 512)?, 0);
+    log.push_len(&no_images)?;
+    log.drive(&mut no_images, &[Step::On(0, Call::Look(1))])?;
+    log.push_len(&NoMembers)?;
+    log.drive(&mut NoMembers, &[Step::On(0, Call::Look(2))])
 }
 
 // Appends the lines of all banks.
-pub(crate) fn show(heap: Global, out: &mut String) -> Result<(), AllocError> {
-    show_many_spares(heap, out)?;
-    let mut bank = mixed(heap, out)?;
-    push_len(out, &bank)?;
-    drive(heap, out, &mut bank, &MIXED)?;
-    show_buffers(out, bank)?;
-    show_without_slots(heap, out)
+pub(crate) fn show(log: &mut Log) -> Result<(), AllocError> {
+    show_many_spares(log)?;
+    let mut bank = mixed(log)?;
+    log.push_len(&bank)?;
+    log.drive(&mut bank, &MIXED)?;
+    show_buffers(log, bank)?;
+    show_without_slots(log)
 }

@@ -13,10 +13,7 @@ pub(crate) type Stack<M> = Remap<FaultLayer<M>>;
 
 // A bank of one member.
 pub(crate) fn single<M: Member>(member: M) -> Single<M> {
-    Link {
-        first: member,
-        rest: NoMembers,
-    }
+    Link::new(member, NoMembers)
 }
 
 // A remap layer with 2 spares over a fault layer.

@@ -1,9 +1,9 @@
 // The stack of a remap layer with 2 spares over a fault layer over a cell, from round 0 to round 4.
 use crate::builds::{single, stack};
-use crate::calls::{Call, Step, drive, plan, push_heading};
+use crate::calls::{Call, Log, Step};
 use faulty::FaultLayer;
 use member::cell::Cell;
-use std::alloc::{AllocError, Global};
+use std::alloc::AllocError;
 
 // Entries of round, kind and block, one more than there are places.
 const ENTRIES: [(usize, usize, usize); 17] = [
@@ -122,13 +122,12 @@ const STEPS: [Step; 79] = [
 ];
 
 // Appends the lines of all rounds.
-pub(crate) fn show(heap: Global, out: &mut String) -> Result<(), AllocError> {
-    push_heading(
-        out,
+pub(crate) fn show(log: &mut Log) -> Result<(), AllocError> {
+    log.push_heading(
         "remap with 2 spares over a fault layer over a cell: sixteen entries of round, kind and block, and one too many",
     )?;
     let mut layer = FaultLayer::new(Cell::new());
-    plan(out, &mut layer, &ENTRIES)?;
+    log.plan(&mut layer, &ENTRIES)?;
     let mut bank = single(stack(layer));
-    drive(heap, out, &mut bank, &STEPS)
+    log.drive(&mut bank, &STEPS)
 }

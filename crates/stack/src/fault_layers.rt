@@ -1,11 +1,11 @@
 // Fault layers without a remap layer: entries added while time passes, one layer over another, and where the count of ticks stops.
 use crate::builds::single;
-use crate::calls::{Call, Step, drive, plan, push_heading};
+use crate::calls::{Call, Log, Step};
 use bank::Bank;
 use faulty::FaultLayer;
 use member::Member;
 use member::cell::Cell;
-use std::alloc::{AllocError, Global};
+use std::alloc::AllocError;
 
 // The calls after entries were added in round 1.
 const LATE: [Step; 14] = [
@@ -74,41 +74,33 @@ const DOUBLE: [Step; 24] = [
 ];
 
 // Entries of a past, the present and a later round, and then more than there are places.
-fn show_single(heap: Global, out: &mut String) -> Result<(), AllocError> {
-    push_heading(
-        out,
+fn show_single(log: &mut Log) -> Result<(), AllocError> {
+    log.push_heading(
         "a fault layer over a cell, after one tick: an entry of this round is active at once, one of a past round never",
     )?;
     let mut bank = single(FaultLayer::new(Cell::new()));
-    drive(heap, out, &mut bank, &[Step::On(0, Call::Tick)])?;
-    plan(out, &mut bank.first, &[(0, 1, 0), (1, 2, 3), (2, 1, 0)])?;
-    drive(heap, out, &mut bank, &LATE)?;
-    plan(out, &mut bank.first, &FILLING)?;
-    drive(
-        heap,
-        out,
+    log.drive(&mut bank, &[Step::On(0, Call::Tick)])?;
+    log.plan(&mut bank.first, &[(0, 1, 0), (1, 2, 3), (2, 1, 0)])?;
+    log.drive(&mut bank, &LATE)?;
+    log.plan(&mut bank.first, &FILLING)?;
+    log.drive(
         &mut bank,
         &[Step::On(0, Call::Read(4, 512)), Step::On(0, Call::Fresh)],
     )?;
-    plan(out, &mut bank.first, &[(2, 1, 0)])?;
-    drive(heap, out, &mut bank, &[Step::On(0, Call::Read(4, 512))])
+    log.plan(&mut bank.first, &[(2, 1, 0)])?;
+    log.drive(&mut bank, &[Step::On(0, Call::Read(4, 512))])
 }
 
 // A layer over another, each with entries of its own.
-fn show_double(heap: Global, out: &mut String) -> Result<(), AllocError> {
-    push_heading(
-        out,
+fn show_double(log: &mut Log) -> Result<(), AllocError> {
+    log.push_heading(
         "a fault layer over another: the entries of the lower, height 1, and then of the upper, height 2",
     )?;
     let mut lower = FaultLayer::new(Cell::new());
-    plan(
-        out,
-        &mut lower,
-        &[(0, 2, 0), (0, 2, 1), (0, 3, 3), (1, 1, 0)],
-    )?;
+    log.plan(&mut lower, &[(0, 2, 0), (0, 2, 1), (0, 3, 3), (1, 1, 0)])?;
     let mut upper = FaultLayer::new(lower);
-    plan(out, &mut upper, &[(0, 2, 0), (0, 3, 2), (2, 1, 0)])?;
-    drive(heap, out, &mut single(upper), &DOUBLE)
+    log.plan(&mut upper, &[(0, 2, 0), (0, 3, 2), (2, 1, 0)])?;
+    log.drive(&mut single(upper), &DOUBLE)
 }
 
 // Lets so many units of time pass.
@@ -119,17 +111,14 @@ fn wait<M: Member>(member: &mut M, ticks: usize) {
 }
 
 // The last round, which every later tick stays in.
-fn show_last_round(heap: Global, out: &mut String) -> Result<(), AllocError> {
-    push_heading(
-        out,
+fn show_last_round(log: &mut Log) -> Result<(), AllocError> {
+    log.push_heading(
         "the count of ticks stops at 65535: an entry of that round, before it and from then on",
     )?;
     let mut bank = single(FaultLayer::new(Cell::new()));
-    plan(out, &mut bank.first, &[(65_535, 2, 0), (65_536, 1, 0)])?;
+    log.plan(&mut bank.first, &[(65_535, 2, 0), (65_536, 1, 0)])?;
     wait(&mut bank.first, 65_534);
-    drive(
-        heap,
-        out,
+    log.drive(
         &mut bank,
         &[
             Step::On(0, Call::Look(0)),
@@ -139,18 +128,16 @@ fn show_last_round(heap: Global, out: &mut String) -> Result<(), AllocError> {
             Step::On(0, Call::Look(0)),
         ],
     )?;
-    plan(out, &mut bank.first, &[(65_535, 2, 1)])?;
-    drive(
-        heap,
-        out,
+    log.plan(&mut bank.first, &[(65_535, 2, 1)])?;
+    log.drive(
         &mut bank,
         &[Step::On(0, Call::Look(1)), Step::On(0, Call::Look(2))],
     )
 }
 
 // Appends the lines of all fault layers.
-pub(crate) fn show(heap: Global, out: &mut String) -> Result<(), AllocError> {
-    show_single(heap, out)?;
-    show_double(heap, out)?;
-    show_last_round(heap, out)
+pub(crate) fn show(log: &mut Log) -> Result<(), AllocError> {
+    show_single(log)?;
+    show_double(log)?;
+    show_last_round(log)
 }

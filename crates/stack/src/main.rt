@@ -8,12 +8,13 @@ mod calls;
 mod cell_stack;
 mod fault_layers;
 
+use crate::calls::Log;
+
 fn main(rt: HostRuntime) -> anyhow::Result<()> {
-    let heap = rt.alloc();
-    let mut out = String::new(heap);
-    cell_stack::show(heap, &mut out)?;
-    fault_layers::show(heap, &mut out)?;
-    banks::show(heap, &mut out)?;
-    rt.print(out)?;
+    let mut log = Log::new(rt.alloc());
+    cell_stack::show(&mut log)?;
+    fault_layers::show(&mut log)?;
+    banks::show(&mut log)?;
+    rt.print(log.into_text())?;
     Ok(())
 }

@@ -4,7 +4,7 @@ use Rattle.std.proofs.lemmas.Grind.{common_steps}
 use Rattle.faultplan.specs.declared.plan.PlanRefusal.{PlanRefusal}
 use Rattle.faultplan.specs.Plans.{plan_number, add_answer}
 use Rattle.stack.specs.Lines.{answer_output}
-use Rattle.stack.proofs.calls.push_add.Goals as goal
+use Rattle.stack.proofs.calls.Log.push_add.Goals as goal
 
 -- what is printed of an answer is its number
 number_output : (r : Result Unit PlanRefusal) → answer_output (λ e. Some (decimal (plan_number e))) r ≡ Some (decimal (add_answer r))
