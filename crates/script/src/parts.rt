@@ -36,7 +36,7 @@ pub enum Act {
     Replace(usize),
     // of the member in a slot, by at most so many steps
     Rebuild(usize, usize),
-    // An operation of any number has an act, as the line of an unknown one says so by 10: so there is no TryFrom.
+    // of any other number, which the rules answer by 10: each operation has an act, so that this is no TryFrom
     Unknown,
 }
 
