@@ -88,14 +88,19 @@ impl Grid {
         xor_run(&block[0..rest], &mut into[BLOCK - rest..BLOCK]);
     }
 
-    // A block whose every row is `row`.
+    // A block whose every row is `row`: what is filled so far is copied behind itself, so that the copies are few and long. Row by
+    // row (tried) it is slower where the width is no constant to the compiler: bars of speed that this meets are then missed.
     fn repeat(&self, row: &[u8]) -> [u8; BLOCK]
         requires sized { length row.now ≡ self.now.width }
         ensures value { result ≡ repeated self.now.prime self.now.width row.now }
     {
         let mut block = [0u8; BLOCK];
-        for k in 0..self.prime - 1 {
-            self.put_row(k, row, &mut block);
+        self.put_row(0, row, &mut block);
+        let mut done = self.width;
+        while done < BLOCK {
+            let more = done.min(BLOCK - done);
+            block.copy_within(0..more, done);
+            done += more;
         }
         block
     }

@@ -1,5 +1,6 @@
 -- A row repeated over a block, and the ⊕ of the rows of a block.
-use Rattle.std.proofs.Common.{◌≡◌, ℕ, zero, suc, ◌+◌, ◌-◌, ◌*◌, ◌<◌, ◌≤◌, List, ◌++◌, length, get_or, take, drop, replicate, sym, refl, ap, ◌∙◌, inl, inr, zero-mul, suc-mul, add-one, arith, rules}
+use Rattle.std.proofs.Common.{◌≡◌, ℕ, zero, suc, ◌+◌, ◌-◌, ◌*◌, ◌%◌, ◌<◌, ◌≤◌, min, List, ◌++◌, length, get_or, take, drop, replicate, sym, refl, ap, ◌∙◌, inl, inr, mod-eq_of_lt, zero-mul, suc-mul, add-one, arith, rules}
+use native.Mathlib.Nat.{mul-mod_left, mod_self}
 use lib.Bits.{bit_xor, xor_zero_r, xor_assoc}
 use Rattle.std.specs.List.{between}
 use lib.Seq.{paste}
@@ -7,13 +8,14 @@ use Rattle.std.proofs.Math.Seq.{take-append_seam, drop-append_seam}
 use Rattle.std.proofs.lemmas.List.{get_or_past, places, drop-drop, drop-take, length-append, length-drop}
 use Rattle.std.proofs.lemmas.List.FromFn.{length-map-range_with_len, get_or-map-range_with_len}
 use Rattle.std.proofs.lemmas.List.Edits.{get_or-between, length-between, length-paste}
-use Rattle.std.proofs.lemmas.Nat.{mul-le}
+use Rattle.std.proofs.lemmas.Nat.{mod-mul-add, mul-le}
 use Rattle.std.proofs.lemmas.Slice.{between_is}
-use Rattle.std.proofs.lemmas.Bool.{cases_eq, cases_lt, cases_order}
+use Rattle.std.proofs.lemmas.Bool.{cases_lt, cases_order}
 use Rattle.code.specs.Blocks.{◌⊕◌, onto}
 use Rattle.code.proofs.Blocks.{length_onto, get_or_onto, onto_same, is_onto}
 use Rattle.prime.specs.Rows.{cell, rows, repeated, everywhere, sum_at, row_sums}
 use Rattle.prime.specs.Diagonals.{closed, unadjusted, unadjusted_block}
+use Rattle.prime.proofs.Mods.{add_cong, add_cong_r}
 use Rattle.prime.proofs.Shifts.{closed_in, closed_end}
 use Rattle.prime.proofs.Grids.{length_rows, cell_rows, is_rows, rows_same}
 use Rattle.prime.proofs.Sizes.{Sizes}
@@ -47,26 +49,56 @@ other_row w d k s i t h l m ne = elim (cases_lt i k) [
 abbrev pub Closes : ℕ → ℕ → List ℕ → List ℕ → Type 0
 Closes p w b given = (r t : ℕ) → r < p → t < w → cell w given r t ≡ closed p (λ k. cell w b k t) r
 
--- ---- a row repeated: the first k rows of s are copies of it
-pub record Filled (w n : ℕ) (row s : List ℕ) (k : ℕ) : Type 0 where
+-- ---- a row repeated
+-- the first `done` bytes of s are whole copies of the row
+pub record Filled (w n : ℕ) (row s : List ℕ) (done : ℕ) : Type 0 where
   pub long : length s ≡ n
-  pub same : (r t : ℕ) → r < k → t < w → cell w s r t ≡ get_or row t 0
+  pub some : w ≤ done
+  pub low : done ≤ n
+  pub copies : done % w ≡ 0
+  pub same : (k : ℕ) → k < done → get_or s k 0 ≡ get_or row (k % w) 0
 
-pub filled_none : (w n : ℕ) (row s : List ℕ) → length s ≡ n → Filled w n row s 0
-filled_none w n row s l = record { long = l; same = λ r t h m. absurd (omega arith) }
+module _ (p w n : ℕ) (S : Sizes p w n) (row : List ℕ) where
+  none_left : 0 % w ≡ 0
+  none_left = mod-eq_of_lt S.wide
 
--- one row more
-pub filled_more : (w n : ℕ) (row s out : List ℕ) (k : ℕ) → k * w + w ≤ n → length row ≡ w → Filled w n row s k → out ≡ paste s (k * w) row w → Filled w n row out (k + 1)
-filled_more w n row s out k within wide F e = record {
-  long = ap length e ∙ length-paste s (k * w) row w (omega (arith, F.long)) (omega arith) ∙ F.long;
-  same = λ r t h m. ap (λ (x : List ℕ). cell w x r t) e ∙ elim (cases_eq r k) [
-    | inl q ↦ ap (λ i. cell w (paste s (k * w) row w) i t) q ∙ paste_inside s (k * w) row w t (omega (arith, F.long)) (omega arith) m
-    | inr q ↦ other_row w s k row r t (omega (arith, F.long)) (omega arith) m q ∙ F.same r t (omega arith) m
-  ];
-}
+  filled_none : (s : List ℕ) → length s ≡ n → ((k : ℕ) → k < w → get_or s k 0 ≡ get_or row k 0) → Filled w n row s w
+  filled_none s l h = record {
+    long = l;
+    some = omega arith;
+    low = S.short;
+    copies = mod_self w;
+    same = λ k m. h k m ∙ ap (λ i. get_or row i 0) (sym (mod-eq_of_lt m));
+  }
 
-pub filled_all : (p w n : ℕ) → Sizes p w n → (row s : List ℕ) (k : ℕ) → p - 1 ≤ k → Filled w n row s k → s ≡ repeated p w row
-filled_all p w n S row s k h F = is_rows p w S.wide s (λ _ t. get_or row t 0) (F.long ∙ sym S.whole) (λ r t l m. F.same r t (omega arith) m)
+  -- the row written at the start of a block
+  pub filled_first : (d s : List ℕ) → length d ≡ n → length row ≡ w → s ≡ paste d (0 * w) row w → Filled w n row s w
+  filled_first d s ld lr e = filled_none s (ap length e ∙ length-paste d (0 * w) row w (omega (arith, S.short)) (omega arith) ∙ ld) (λ k m.
+      ap (λ (x : List ℕ). get_or x k 0) e ∙ ap (λ i. get_or (paste d (0 * w) row w) i 0) (omega arith) ∙ paste_inside d (0 * w) row w k (omega (arith, S.short)) (omega arith) m)
+
+  -- the copies so far, or as many bytes of them as there is room for, are copied behind themselves
+  pub filled_more : (s s' : List ℕ) (done more : ℕ) → done < n → more ≡ min done (n - done) → Filled w n row s done → length s' ≡ n →
+      ((k : ℕ) → k < done → get_or s' k 0 ≡ get_or s k 0) → ((k : ℕ) → done ≤ k → k < done + more → get_or s' k 0 ≡ get_or s (k - done) 0) → Filled w n row s' (done + more)
+  filled_more s s' done more l e F long old new = record {
+    long = long;
+    some = omega (arith, F.some);
+    low = omega arith;
+    copies = elim (cases_lt (n - done) done) [
+      | inl q ↦ ap (λ x. x % w) (omega arith) ∙ ap (λ x. x % w) (sym S.whole) ∙ mul-mod_left (p - 1) w
+      | inr q ↦ ap (λ x. x % w) (omega arith) ∙ add_cong w done 0 done (F.copies ∙ sym none_left) ∙ ap (λ x. x % w) (omega arith) ∙ F.copies
+    ];
+    same = λ k m. elim (cases_lt k done) [
+      | inl q ↦ old k q ∙ F.same k q
+      | inr q ↦ new k q m ∙ F.same (k - done) (omega arith) ∙ ap (λ i. get_or row i 0) (sym (back k q))
+    ];
+  }
+    where
+      back : (k : ℕ) → done ≤ k → k % w ≡ (k - done) % w
+      back k q = ap (λ x. x % w) (omega arith) ∙ add_cong_r w (k - done) done 0 (F.copies ∙ sym none_left) ∙ ap (λ x. x % w) (omega arith)
+
+  pub filled_all : (s : List ℕ) (done : ℕ) → n ≤ done → Filled w n row s done → s ≡ repeated p w row
+  filled_all s done h F = is_rows p w S.wide s (λ _ t. get_or row t 0) (F.long ∙ sym S.whole) (λ r t l m.
+      F.same (r * w + t) (omega (arith, S.within r l)) ∙ ap (λ i. get_or row i 0) (mod-mul-add r w t m))
 
 -- the row that was cut from row r of a block has the width
 pub length_row : (w r : ℕ) (b row : List ℕ) → r * w + w ≤ length b → row ≡ between (r * w) (r * w + w) b → length row ≡ w
