@@ -1,29 +1,16 @@
 // Bytes as hexadecimal digits.
-ghost use Rattle.std.specs.Prelude.{◌≡◌, ◌<◌, ◌++◌, string_bytes, OnOk};
-ghost use Rattle.notation.specs.Numbers.{hex_digit, hex_byte};
+ghost use Rattle.std.specs.Prelude.{◌≡◌, ◌++◌, string_bytes, OnOk};
+ghost use Rattle.notation.specs.Numbers.{hex_byte};
 
 use std::alloc::AllocError;
-
-// The lower-case hexadecimal digit of a number below 16.
-fn digit(n: u8) -> char
-    requires small { n < 16 }
-    ensures value { result ≡ hex_digit n }
-    ensures ascii { result < 128 }
-{
-    if n < 10 {
-        char::from(b'0' + n)
-    } else {
-        char::from(b'a' - 10 + n)
-    }
-}
 
 // Appends a byte as two lower-case hexadecimal digits. Without memory for them an error is answered, and what the text then holds is
 // left free. Digit by digit: by `{byte:02x}` it took twice the instructions.
 pub fn push_hex(out: &mut String, byte: u8) -> Result<(), AllocError>
     ensures made { OnOk result (string_bytes out.new ≡ string_bytes out.old ++ hex_byte byte) }
 {
-    out.push(digit(byte / 16))?;
-    out.push(digit(byte % 16))
+    out.push(char::from_digit(u32::from(byte / 16), 16).unwrap())?;
+    out.push(char::from_digit(u32::from(byte % 16), 16).unwrap())
 }
 
 #[cfg(test)]
