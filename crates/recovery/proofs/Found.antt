@@ -1,5 +1,5 @@
 -- The way that a stripe's missing columns lead to.
-use Rattle.std.proofs.Common.{◌≡◌, ℕ, ◌+◌, ◌<◌, ◌≤◌, Bool, true, false, cond, eqb, ltb, List, [], ◌∷◌, get_or, is_some, Some, None, Option, Bor, sym, refl, ap, ◌∙◌, ap₂, arith}
+use Rattle.std.proofs.Common.{◌≡◌, ℕ, ◌+◌, ◌<◌, ◌≤◌, Bool, true, false, cond, eqb, ltb, List, [], ◌∷◌, is_some, Some, None, Option, sym, refl, ap, ◌∙◌, ap₂, arith}
 use Rattle.std.proofs.lemmas.Bool.{cond_both, lt-ltb, ne_eqb, and_from, not_from_false}
 use Rattle.code.specs.Blocks.{zeros}
 use Rattle.code.specs.Codes.{Coding}
@@ -10,9 +10,7 @@ use Rattle.parity.specs.declared.Way.TheVariants.{Plain, Mixed, Unmixed, PWithou
 use Rattle.parity.proofs.Gaps.{gaps_first}
 use Rattle.recovery.specs.declared.loss.Lost.{Lost}
 use Rattle.recovery.specs.Answers.{named}
-use Rattle.recovery.specs.Columns.{columns_of}
 use Rattle.recovery.specs.Losses.{listed, noted}
-use Rattle.recovery.proofs.Marks.{some_copied}
 
 -- only the two highest matter
 pub way_noted : (k : ℕ) (l : List ℕ) (p : Bool) (t : ℕ) → way k (listed (noted l)) p t ≡ way k l p t
@@ -22,12 +20,9 @@ way_noted k (i ∷ []) false t = refl
 way_noted k (i ∷ (j ∷ l)) p t = refl
 
 -- the way of what is noted, by whether P is there
-pub way_from : (k : ℕ) (columns : List (Option (Bor (List ℕ)))) (p : Bool) (t : ℕ) (lost : Lost) (v : Way) → lost ≡ noted (gaps (columns_of columns) k)
-    → p ≡ is_some (get_or columns k None) → v ≡ way k (listed lost) p t → v ≡ way k (gaps (columns_of columns) k) (is_some (columns_of columns k)) t
-way_from k columns p t lost v el ep ev =
-    let cols = columns_of columns in
-    ev ∙ ap (λ x. way k (listed x) p t) el ∙ way_noted k (gaps cols k) p t
-    ∙ ap (λ b. way k (gaps cols k) b t) (ep ∙ sym (some_copied (get_or columns k None)))
+pub way_from : (k : ℕ) (cols : ℕ → Option (List ℕ)) (p : Bool) (t : ℕ) (lost : Lost) (v : Way) → lost ≡ noted (gaps cols k)
+    → p ≡ is_some (cols k) → v ≡ way k (listed lost) p t → v ≡ way k (gaps cols k) (is_some (cols k)) t
+way_from k cols p t lost v el ep ev = ev ∙ ap (λ x. way k (listed x) p t) el ∙ way_noted k (gaps cols k) p t ∙ ap (λ b. way k (gaps cols k) b t) ep
 
 pair_named : (w i j : ℕ) → i < w → j < w → (i ≡ j → ⊥) → named w (Pair i j) ≡ true
 pair_named w i j li lj n = and_from _ _ (lt-ltb i w li) (and_from _ _ (lt-ltb j w lj) (not_from_false _ (ne_eqb i j n)))

@@ -1,8 +1,8 @@
 -- Calls that cannot be refused.
-use Rattle.std.proofs.Common.{◌≡◌, ℕ, ◌-◌, ◌+◌, ◌<◌, ◌≤◌, Bool, true, ◌&&◌, ltb, leb, List, length, is_ok, Ok, Err, Result, sym, refl, ap, ◌∙◌, arith}
+use Rattle.std.proofs.Common.{◌≡◌, ℕ, ◌-◌, ◌+◌, ◌<◌, ◌≤◌, Bool, true, ◌&&◌, eqb, ltb, leb, List, length, is_ok, Ok, Err, Result, sym, refl, ap, ◌∙◌, arith}
 use Rattle.code.specs.declared.CodeRefusal.{CodeRefusal}
 use Rattle.code.specs.declared.CodeRefusal.TheVariants.{Column, Length}
-use Rattle.std.proofs.lemmas.Bool.{and_from, and_parts, eq-eqb, leb-true, ltb-true, lt-ltb, le-leb, cond-true}
+use Rattle.std.proofs.lemmas.Bool.{and_from, and_parts, eq-eqb, eqb-true, leb-true, ltb-true, lt-ltb, le-leb, cond-true}
 use Rattle.code.specs.Blocks.{block_size}
 use Rattle.code.specs.Answers.{number, answer, sized, on_column}
 use Rattle.parity.specs.declared.Way.{Way}
@@ -36,14 +36,16 @@ pub taken_ok : {U : Type 0} (r : Result U CodeRefusal) → answer r ≡ 0 → is
 taken_ok (Ok u) z = refl
 taken_ok (Err e) z = absurd (not_zero e z)
 
--- what a stripe's list keeps to
-pub record Shape (w n t : ℕ) : Type 0 where
+-- what a stripe's lists keep to
+pub record Shape (w n m t : ℕ) : Type 0 where
+  pub same : n ≡ m
   pub pair : 2 ≤ n
   pub under : n - 2 ≤ w
   pub has : t < n
 
-pub shape : (w n t : ℕ) → shaped w n t ≡ true → Shape w n t
-shape w n t e =
-    let b = and_parts (leb 2 n) (leb (n - 2) w && ltb t n) e in
+pub shape : (w n m t : ℕ) → shaped w n m t ≡ true → Shape w n m t
+shape w n m t e =
+    let a = and_parts (eqb n m) (leb 2 n && (leb (n - 2) w && ltb t n)) e in
+    let b = and_parts (leb 2 n) (leb (n - 2) w && ltb t n) a.1 in
     let d = and_parts (leb (n - 2) w) (ltb t n) b.1 in
-    record { pair = leb-true 2 n b.0; under = leb-true (n - 2) w d.0; has = ltb-true t n d.1 }
+    record { same = eqb-true n m a.0; pair = leb-true 2 n b.0; under = leb-true (n - 2) w d.0; has = ltb-true t n d.1 }

@@ -45,14 +45,14 @@ on_way w v good = cond good (cond (named w v) 0 2) 3
 abbrev pub on_count : ℕ → ℕ → Bool → ℕ
 on_count w n good = cond good (cond (nat_le n w) 0 2) 3
 
--- a list of n columns is that of a stripe that has column t, under the limit w
-abbrev pub shaped : ℕ → ℕ → ℕ → Bool
-shaped w n t = nat_le 2 n && (nat_le (n - 2) w && nat_lt t n)
+-- two lists of n and m columns and marks are those of a stripe that has column t, under the limit w
+abbrev pub shaped : ℕ → ℕ → ℕ → ℕ → Bool
+shaped w n m t = n == m && (nat_le 2 n && (nat_le (n - 2) w && nat_lt t n))
 
 -- column t and at least two more of the n columns are missing
 abbrev pub unrecoverable : (ℕ → Option (List ℕ)) → ℕ → ℕ → Bool
 unrecoverable cols n t = not (is_some (cols t)) && nat_lt 2 (missing cols n)
 
--- a call for column t of the n columns cols: first the buffer, then the shape, then what is missing
-abbrev pub on_recover : ℕ → ℕ → (ℕ → Option (List ℕ)) → ℕ → Bool → ℕ
-on_recover w n cols t good = cond good (cond (shaped w n t) (cond (unrecoverable cols n t) 4 0) 2) 3
+-- a call for column t of the columns cols, n of them beside m marks: first the buffer, then the shape, then what is missing
+abbrev pub on_recover : ℕ → ℕ → ℕ → (ℕ → Option (List ℕ)) → ℕ → Bool → ℕ
+on_recover w n m cols t good = cond good (cond (shaped w n m t) (cond (unrecoverable cols n t) 4 0) 2) 3

@@ -1,5 +1,5 @@
 -- Contents and columns that are held in lists, and a stripe's two parities.
-use Rattle.std.specs.Prelude.{◌≡◌, ℕ, ◌+◌, ◌<◌, ◌≤◌, List, [], None, Option, slice_index_or, option_copied}
+use Rattle.std.specs.Prelude.{◌≡◌, ℕ, ◌+◌, ◌<◌, ◌≤◌, Bool, false, cond, List, [], Some, None, Option, slice_index_or, option_copied}
 use Rattle.std.proofs.Common.{Bor}
 use Rattle.code.specs.Blocks.{Block, ◌⊕◌}
 use Rattle.code.specs.Codes.{Coding}
@@ -8,6 +8,10 @@ use Rattle.parity.specs.Stripe.{Content, column}
 -- the content whose data columns are listed
 abbrev pub content : List (List ℕ) → ℕ → List ℕ
 content blocks j = slice_index_or blocks j []
+
+-- the columns of a list of blocks, of which those that are marked are present
+abbrev pub stripe_of : List (List ℕ) → List Bool → ℕ → Option (List ℕ)
+stripe_of blocks marks t = cond (slice_index_or marks t false) (Some (slice_index_or blocks t [])) None
 
 -- the columns of a list in which a missing one is None
 abbrev pub columns_of : List (Option (Bor (List ℕ))) → ℕ → Option (List ℕ)

@@ -7,6 +7,7 @@ ghost use Rattle.code.specs.Blocks.{zeros};
 
 use code::BLOCK;
 
+mod at_hand;
 pub mod columns;
 pub mod loss;
 pub mod parities;

@@ -103,10 +103,12 @@ asked C blocks left i j m w two e l h =
 
 -- what it then answers, and what it gives
 pub not_refused : (C : Coding) (blocks : List (List ℕ)) (left : List (Option (Bor (List ℕ)))) (t : ℕ) → Whole C (length blocks - 2) blocks → 2 < length blocks → t < length blocks → Asked C blocks left
-    → on_recover C.limit (length left) (columns_of left) t true ≡ 0
+    → on_recover C.limit (length left) (length left) (columns_of left) t true ≡ 0
 not_refused C blocks left t w two l a =
     rw a.long (
-    cond-true _ _ _ (and_from _ _ (le-leb 2 (length blocks) (omega arith)) (and_from _ _ (le-leb (length blocks - 2) C.limit w.limit) (lt-ltb t (length blocks) l)))
+    cond-true _ _ _
+    (and_from _ _ (eq-eqb (length blocks) (length blocks) refl)
+    (and_from _ _ (le-leb 2 (length blocks) (omega arith)) (and_from _ _ (le-leb (length blocks - 2) C.limit w.limit) (lt-ltb t (length blocks) l))))
     ∙ cond-false _ _ _ (ap (λ b. not (is_some (columns_of left t)) && b) (le-ltb 2 (missing (columns_of left) (length blocks)) a.few) ∙ and-false _))
 
 pub comes_back : (C : Coding) (blocks : List (List ℕ)) (left : List (Option (Bor (List ℕ)))) (t : ℕ) (found : List ℕ) → Whole C (length blocks - 2) blocks → 2 < length blocks → t < length blocks → Asked C blocks left

@@ -7,7 +7,7 @@ ghost use Rattle.report.specs.Losses.{without};
 use crate::text::push_pair;
 use crate::whole::WholeStripe;
 use code::{BLOCK, Code};
-use recovery::columns::recover;
+use recovery::columns::recover_given;
 use std::alloc::AllocError;
 
 // The columns of a stripe, of which `i` and `j` are missing.
@@ -37,7 +37,7 @@ impl<'a, C: Code> WholeStripe<'a, C> {
     {
         let left = without(&self.columns, i, j);
         let mut block = [0u8; BLOCK];
-        let answer = recover(self.code, &left[..self.columns.len()], want, &mut block);
+        let answer = recover_given(self.code, &left[..self.columns.len()], want, &mut block);
         answer.is_ok() && block == self.columns[want]
     }
 

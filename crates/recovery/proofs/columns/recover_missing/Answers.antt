@@ -5,9 +5,9 @@ use Rattle.code.specs.Answers.{answer}
 use Rattle.parity.specs.Stripe.{gaps}
 use Rattle.parity.specs.Ways.{way, by_way}
 use Rattle.recovery.specs.Answers.{named}
-use Rattle.recovery.specs.Columns.{columns_of}
 use Rattle.recovery.proofs.Outcomes.{way_taken, taken_ok, good_two}
 use Rattle.recovery.proofs.Found.{way_from, way_named, found_is}
+use Rattle.recovery.proofs.Marks.{some_at}
 use Rattle.recovery.proofs.columns.recover_missing.Goals as goal
 
 pub gather-requires : goal.gather-requires
@@ -18,9 +18,10 @@ pub returns : goal.returns
 returns g c =
     let C = g.C.Code.coding c.args.code.now in
     let k = c.args.k in
-    let cols = columns_of c.args.columns.now in
+    let cols = g.S.AtHand.held c.args.columns.now in
+    let p : c.is_some.result ≡ is_some (cols k) = some_at c.at.result (cols k) _ c.at.ensures.value c.is_some.ensures in
     let w : c.way-way.result ≡ way k (gaps cols k) (is_some (cols k)) c.args.want =
-    way_from k c.args.columns.now c.is_some.result c.args.want c.lost_data.result c.way-way.result c.lost_data.ensures.value c.is_some.ensures c.way-way.ensures.value in
+    way_from k cols c.is_some.result c.args.want c.lost_data.result c.way-way.result c.lost_data.ensures.value p c.way-way.ensures.value in
     let n : named C.limit c.way-way.result ≡ true = ap (named C.limit) w ∙ way_named C.limit cols k c.requires.shape.0 (gaps cols k) refl (is_some (cols k)) c.args.want in
     let z : answer c.solve.result ≡ 0 = c.solve.ensures.answered ∙ way_taken C.limit c.way-way.result _ n (good_two c.gather.new.plain c.gather.new.mixed (omega arith) (omega arith)) in
     record {
