@@ -38,7 +38,7 @@ pub renewed_moved : (ms ns : Slots) (i : ℕ) → Changed Renewed ms i ns → Mo
 renewed_moved = moved_of Renewed (record { level = record { count = refl; height = refl }; present = refl }) (λ m n t. t.level.count)
 
 -- what a member with blocks refuses is what its bank refuses
-write_told : (ms : Slots) (i s n : ℕ) → 0 < (members_of ms i).count → on_slot ms i s (λ m. write_refusal m s n) ≡ write_refusal (members_of ms i) s n
+pub write_told : (ms : Slots) (i s n : ℕ) → 0 < (members_of ms i).count → on_slot ms i s (λ m. write_refusal m s n) ≡ write_refusal (members_of ms i) s n
 write_told ms i s n l =
     ⊎_elim
     (λ (a : i < ms.size).
@@ -61,7 +61,7 @@ behind_missing M F s i j e l = ap (λ (x : ℕ). is_some (held M F s x)) e ∙ a
 abbrev pub column_answer : Option Refusal → ℕ → Result Unit Told
 column_answer o f = answering tt (rebuilt o f)
 
-rebuilt_any : (o : Option Refusal) (f g : ℕ) → column_answer o f ≡ column_answer o g
+pub rebuilt_any : (o : Option Refusal) (f g : ℕ) → column_answer o f ≡ column_answer o g
 rebuilt_any None f g = refl
 rebuilt_any (Some x) f g = refl
 
@@ -183,3 +183,7 @@ module _ (V : Shape) (M : Members) (R : Records) (i : ℕ) where
 pub open_some : (b : Bool) (f s : ℕ) → Some s ≡ cond b (Some f) None → (b ≡ true) × (f ≡ s)
 open_some true f s e = (refl, cc)
 open_some false f s e = absurd (let z : ◌≡◌ {A = ℕ} 0 1 = cc in omega arith)
+
+pub open_none : (b : Bool) (f : ℕ) → None ≡ cond b (Some f) None → b ≡ false
+open_none true f e = absurd (let z : ◌≡◌ {A = ℕ} 0 1 = cc in omega arith)
+open_none false f e = refl
