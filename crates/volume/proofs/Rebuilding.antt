@@ -14,7 +14,7 @@ use Rattle.contents.specs.declared.SlotEvent.TheVariants.{Stepped}
 use Rattle.contents.specs.Columns.{Members, Frontiers, held}
 use Rattle.contents.specs.declared.Loss.{Loss}
 use Rattle.contents.specs.declared.Refusal.{Refusal as CallRefusal}
-use Rattle.contents.specs.declared.Refusal.TheVariants.{Lost, Failed}
+use Rattle.contents.specs.declared.Refusal.TheVariants.{Lost}
 use Rattle.contents.specs.Refusals.{Told, plain, with_loss, outcome, answering}
 use Rattle.contents.specs.Records.{Records, frontiers, is_open, with_record, slot_after, slot_answer, answer_by}
 use Rattle.contents.specs.Shapes.{Shape, Roomy, missing_at, lossy, loss_at, recovered_at}
@@ -69,17 +69,6 @@ rebuilt_any (Some x) f g = refl
 pub record Lifted (w : Result Unit BankFault) (r : Result Unit CallRefusal) : Type 0 where
   pub answered : outcome r ≡ column_answer (bank_refusal w) 0
   pub fault : fault_of r ≡ bank_refusal w
-
-pub lifted_ok : (w : Result Unit BankFault) (u : Unit) → w ≡ Ok u → Lifted w (Ok tt)
-lifted_ok w u e = record { answered = ap (λ (x : Result Unit BankFault). column_answer (bank_refusal x) 0) (sym e); fault = ap bank_refusal (sym e) }
-
-pub lifted_err : (w : Result Unit BankFault) (f : BankFault) → w ≡ Err f → (r : Result Unit CallRefusal) (x : CallRefusal) → r ≡ Err x → x ≡ Failed f.fault → Lifted w r
-lifted_err w f e r x q h =
-    let a : r ≡ Err (Failed f.fault) = q ∙ ap Err h in
-    record {
-      answered = ap outcome a ∙ ap (λ (x : Result Unit BankFault). column_answer (bank_refusal x) 0) (sym e);
-      fault = ap (fault_of {U = Unit}) a ∙ ap bank_refusal (sym e);
-    }
 
 -- a column is not rebuilt, or it is written
 pub column_lossy : (V : Shape) (M : Members) (F : Frontiers) (s i : ℕ) → 2 < missing_at V M F s → (l : Loss) → l ≡ loss_at V M F s → ColumnRebuilt V M F s i M (Err (Lost l))
