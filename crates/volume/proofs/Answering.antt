@@ -1,6 +1,6 @@
 -- What the calls on a volume answer and change, check by check.
-use Rattle.std.proofs.Common.{◌≡◌, ℕ, ◌<◌, ◌≤◌, Bool, true, false, cond, not, ◌&&◌, eqb, ltb, List, length, is_some, Some, None, Ok, Err, Option, Result, sym, refl, ap, ◌∙◌, arith}
-use Rattle.std.proofs.lemmas.Bool.{false≢true, and_from, and_left, and_right, cond-true, cond-false, lt-ltb, le-ltb, eq-eqb, not_from_true, not_from_false, not-true, not-false}
+use Rattle.std.proofs.Common.{◌≡◌, ℕ, ◌*◌, ◌<◌, ◌≤◌, Bool, true, false, cond, not, ◌&&◌, eqb, ltb, List, length, is_some, is_ok, Some, None, Ok, Err, Option, Result, sym, refl, ap, ◌∙◌, ⊎_elim, mul-zero, arith}
+use Rattle.std.proofs.lemmas.Bool.{false≢true, cases_eq, and_from, and_left, and_right, cond-true, cond-false, lt-ltb, le-ltb, eq-eqb, not_from_true, not_from_false, not-true, not-false}
 use Rattle.code.specs.Blocks.{block_size}
 use Rattle.code.specs.Codes.{Coding, Lawful}
 use Rattle.code.specs.declared.Code.{Ghosts as Code}
@@ -9,7 +9,7 @@ use Rattle.layout.specs.Placing.{Placing}
 use Rattle.layout.specs.declared.Layout.{Ghosts as Layout}
 use Rattle.contents.specs.declared.Refusal.{Refusal}
 use Rattle.contents.specs.Columns.{Members, Frontiers}
-use Rattle.contents.specs.Refusals.{Told}
+use Rattle.contents.specs.Refusals.{Told, outcome}
 use Rattle.contents.specs.Shapes.{Shape, Valid, blocks, stripe_of, column_of, lossy}
 use Rattle.contents.specs.Answers.{write_takes, scrub_takes}
 use Rattle.contents.specs.Changes.{WriteChanges, ScrubChanges}
@@ -49,6 +49,14 @@ or_here o b x y h = ap (λ (p : Option (List ℕ)). or_else p x) h ∙ sym (ap (
 
 pub or_none : (o : Option (List ℕ)) (x : List ℕ) → o ≡ None → or_else o x ≡ x
 or_none o x h = ap (λ (p : Option (List ℕ)). or_else p x) h
+
+pub ok_same : (r : Result Unit Refusal) → is_ok (outcome r) ≡ is_ok r
+ok_same (Ok u) = refl
+ok_same (Err e) = refl
+
+-- a product above a number has no factor 0
+pub factor : (a s k : ℕ) → a < s * k → 0 < k
+factor a s k l = ⊎_elim (λ (z : k ≡ 0). absurd (let e : s * k ≡ 0 = ap (λ (x : ℕ). s * x) z ∙ mul-zero s in omega arith)) (λ (z : k ≡ 0 → ⊥). omega arith) (cases_eq k 0)
 
 -- ---- what a write and a scrub change
 module _ (V : Shape) (M : Members) (F : Frontiers) (a : ℕ) (v : List ℕ) where

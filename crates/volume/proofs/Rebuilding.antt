@@ -14,7 +14,7 @@ use Rattle.contents.specs.declared.SlotEvent.TheVariants.{Stepped}
 use Rattle.contents.specs.Columns.{Members, Frontiers, held}
 use Rattle.contents.specs.declared.Loss.{Loss}
 use Rattle.contents.specs.declared.Refusal.{Refusal as CallRefusal}
-use Rattle.contents.specs.declared.Refusal.TheVariants.{Lost, Failed}
+use Rattle.contents.specs.declared.Refusal.TheVariants.{Lost}
 use Rattle.contents.specs.Refusals.{Told, plain, with_loss, outcome, answering}
 use Rattle.contents.specs.Records.{Records, frontiers, is_open, with_record, slot_after, slot_answer, answer_by}
 use Rattle.contents.specs.Shapes.{Shape, Roomy, missing_at, lossy, loss_at, recovered_at}
@@ -38,7 +38,7 @@ pub renewed_moved : (ms ns : Slots) (i : ℕ) → Changed Renewed ms i ns → Mo
 renewed_moved = moved_of Renewed (record { level = record { count = refl; height = refl }; present = refl }) (λ m n t. t.level.count)
 
 -- what a member with blocks refuses is what its bank refuses
-write_told : (ms : Slots) (i s n : ℕ) → 0 < (members_of ms i).count → on_slot ms i s (λ m. write_refusal m s n) ≡ write_refusal (members_of ms i) s n
+pub write_told : (ms : Slots) (i s n : ℕ) → 0 < (members_of ms i).count → on_slot ms i s (λ m. write_refusal m s n) ≡ write_refusal (members_of ms i) s n
 write_told ms i s n l =
     ⊎_elim
     (λ (a : i < ms.size).
@@ -61,7 +61,7 @@ behind_missing M F s i j e l = ap (λ (x : ℕ). is_some (held M F s x)) e ∙ a
 abbrev pub column_answer : Option Refusal → ℕ → Result Unit Told
 column_answer o f = answering tt (rebuilt o f)
 
-rebuilt_any : (o : Option Refusal) (f g : ℕ) → column_answer o f ≡ column_answer o g
+pub rebuilt_any : (o : Option Refusal) (f g : ℕ) → column_answer o f ≡ column_answer o g
 rebuilt_any None f g = refl
 rebuilt_any (Some x) f g = refl
 
@@ -69,17 +69,6 @@ rebuilt_any (Some x) f g = refl
 pub record Lifted (w : Result Unit BankFault) (r : Result Unit CallRefusal) : Type 0 where
   pub answered : outcome r ≡ column_answer (bank_refusal w) 0
   pub fault : fault_of r ≡ bank_refusal w
-
-pub lifted_ok : (w : Result Unit BankFault) (u : Unit) → w ≡ Ok u → Lifted w (Ok tt)
-lifted_ok w u e = record { answered = ap (λ (x : Result Unit BankFault). column_answer (bank_refusal x) 0) (sym e); fault = ap bank_refusal (sym e) }
-
-pub lifted_err : (w : Result Unit BankFault) (f : BankFault) → w ≡ Err f → (r : Result Unit CallRefusal) (x : CallRefusal) → r ≡ Err x → x ≡ Failed f.fault → Lifted w r
-lifted_err w f e r x q h =
-    let a : r ≡ Err (Failed f.fault) = q ∙ ap Err h in
-    record {
-      answered = ap outcome a ∙ ap (λ (x : Result Unit BankFault). column_answer (bank_refusal x) 0) (sym e);
-      fault = ap (fault_of {U = Unit}) a ∙ ap bank_refusal (sym e);
-    }
 
 -- a column is not rebuilt, or it is written
 pub column_lossy : (V : Shape) (M : Members) (F : Frontiers) (s i : ℕ) → 2 < missing_at V M F s → (l : Loss) → l ≡ loss_at V M F s → ColumnRebuilt V M F s i M (Err (Lost l))
@@ -183,3 +172,7 @@ module _ (V : Shape) (M : Members) (R : Records) (i : ℕ) where
 pub open_some : (b : Bool) (f s : ℕ) → Some s ≡ cond b (Some f) None → (b ≡ true) × (f ≡ s)
 open_some true f s e = (refl, cc)
 open_some false f s e = absurd (let z : ◌≡◌ {A = ℕ} 0 1 = cc in omega arith)
+
+pub open_none : (b : Bool) (f : ℕ) → None ≡ cond b (Some f) None → b ≡ false
+open_none true f e = absurd (let z : ◌≡◌ {A = ℕ} 0 1 = cc in omega arith)
+open_none false f e = refl

@@ -1,5 +1,5 @@
 -- What is missing of a stripe, column by column, and what is lost, slot by slot.
-use Rattle.std.proofs.Common.{◌≡◌, ℕ, zero, suc, ◌+◌, ◌*◌, ◌%◌, ◌^◌, ◌<◌, ◌≤◌, Bool, true, false, cond, not, List, [], ◌∷◌, length, is_some, Option, sym, refl, ap, ◌∙◌, ap₂, add-zero, add_assoc, pow-suc, arith, pow_mono}
+use Rattle.std.proofs.Common.{◌≡◌, ℕ, zero, suc, ◌+◌, ◌*◌, ◌%◌, ◌^◌, ◌<◌, ◌≤◌, Bool, true, false, cond, not, List, [], ◌∷◌, length, is_some, Option, sym, refl, ap, ◌∙◌, ap₂, add-zero, add_assoc, pow-suc, arith, pow_mono, pow-add}
 use Rattle.std.proofs.lemmas.Bool.{cond_both}
 use Rattle.parity.specs.Stripe.{gaps, missing}
 use Rattle.parity.proofs.Gaps.{gaps_none, gaps_more, missing_more}
@@ -73,6 +73,9 @@ at_most_one true m e = omega arith
 at_most_one false m e = omega arith
 
 -- ---- masks
+pub bit_more : (n b c : ℕ) → b ≡ 2 ^ n → c ≡ b * 2 → c ≡ 2 ^ (n + 1)
+bit_more n b c e f = f ∙ ap (λ (x : ℕ). x * 2) e ∙ sym (pow-add 2 n 1)
+
 mask_low : (p : ℕ → Bool) (n : ℕ) → mask p n < 2 ^ n
 unfolding mask
 mask_low p zero = omega arith
@@ -83,6 +86,9 @@ mask_low p (suc n) =
 
 bit_low : (n : ℕ) → n < 18 → 2 ^ n ≤ 131072
 bit_low n h = let k : n ≤ 17 = omega arith in pow_mono k
+
+pub bit_room : (n b : ℕ) → n < 18 → b ≡ 2 ^ n → b ≤ 131072
+bit_room n b h e = omega (arith, bit_low n h)
 
 pub bit_is : (n : ℕ) → n < 18 → (1 * 2 ^ n) % 4294967296 ≡ 2 ^ n
 bit_is n h = let l = bit_low n h in let e : 1 * 2 ^ n ≡ 2 ^ n = one-mul (2 ^ n) in rw e (mod-eq_of_lt (omega arith))

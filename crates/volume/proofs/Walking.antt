@@ -1,5 +1,5 @@
 -- What calls on a bank, slot by slot, make of its members.
-use Rattle.std.proofs.Common.{◌≡◌, ℕ, zero, suc, ◌+◌, ◌<◌, ◌≤◌, min, Bool, true, false, cond, ◌&&◌, eqb, ltb, List, [], ◌∷◌, ◌++◌, map, length, Some, Ok, Err, Result, sym, refl, ap, ◌∙◌, subst, ap₂, ⊎_elim, add-zero, add-one, length-append, arith}
+use Rattle.std.proofs.Common.{◌≡◌, ℕ, zero, suc, ◌+◌, ◌<◌, ◌≤◌, min, Bool, true, false, cond, ◌&&◌, eqb, ltb, List, [], ◌∷◌, ◌++◌, map, length, Some, None, Ok, Err, Result, sym, refl, ap, ◌∙◌, subst, ap₂, ⊎_elim, add-zero, add-one, length-append, arith}
 use Rattle.std.proofs.lemmas.Bool.{cases_Bool, cases_lt, cond-true, cond-false, lt-ltb, le-ltb}
 use Rattle.std.proofs.lemmas.List.Elements.{filter-append}
 use Rattle.std.proofs.lemmas.List.Sums.{fold-append}
@@ -75,22 +75,27 @@ pub written_moved : (s : ℕ) (v : List ℕ) (ms ns : Slots) (i : ℕ) → Chang
 written_moved s v = moved_of (λ m n. Written m s v n) (empty_written s v) (λ m n w. written_count m s v n w)
 
 -- the count of a slot
-count_here : (ms : Slots) (i : ℕ) → i < ms.size → (members_of ms i).count ≡ (ms.member i).count
+pub count_here : (ms : Slots) (i : ℕ) → i < ms.size → (members_of ms i).count ≡ (ms.member i).count
 count_here ms i l =
     ⊎_elim
     (λ (p : 0 < (ms.member i).count). ap (λ (m : Meaning). m.count) (members_here ms i l p))
     (λ (p : (ms.member i).count ≤ 0). ap (λ (m : Meaning). m.count) (members_empty ms i p) ∙ omega arith)
     (cases_lt 0 (ms.member i).count)
 
-count_beyond : (ms : Slots) (i : ℕ) → ms.size ≤ i → (members_of ms i).count ≡ 0
+pub count_beyond : (ms : Slots) (i : ℕ) → ms.size ≤ i → (members_of ms i).count ≡ 0
 count_beyond ms i l = ap (λ (m : Meaning). m.count) (members_beyond ms i l)
+
+-- what a question about a slot's count tells of the slot
+pub slot_there : (i n : ℕ) (x : Refusal) → None ≡ cond (ltb i n) None (Some x) → i < n
+slot_there i n x e = ⊎_elim (λ (l : i < n). l) (λ (l : n ≤ i). absurd (let q : None ≡ Some x = e ∙ cond-false _ _ _ (le-ltb i n l) in let z : ◌≡◌ {A = ℕ} 0 1 = cc in omega arith)) (cases_lt i n)
+
+pub slot_not_there : (i n : ℕ) (x y : Refusal) → Some y ≡ cond (ltb i n) None (Some x) → n ≤ i
+slot_not_there i n x y e = ⊎_elim (λ (l : i < n). absurd (let q : Some y ≡ None = e ∙ cond-true _ _ _ (lt-ltb i n l) in let z : ◌≡◌ {A = ℕ} 0 1 = cc in omega arith)) (λ (l : n ≤ i). l) (cases_lt i n)
 
 -- what a question about a slot's count tells
 pub count_told : (ms : Slots) (i : ℕ) (r : Result ℕ BankFault) → bank_refusal r ≡ slot_refusal ms i → IfOk r (λ n. n ≡ (ms.member i).count) → result_unwrap_or r 0 ≡ (members_of ms i).count
-count_told ms i (Ok n) e v =
-    v ∙ sym (count_here ms i (⊎_elim (λ (l : i < ms.size). l) (λ (l : ms.size ≤ i). absurd (let q = e ∙ cond-false _ _ _ (le-ltb i ms.size l) in let z : ◌≡◌ {A = ℕ} 0 1 = cc in omega arith)) (cases_lt i ms.size)))
-count_told ms i (Err f) e v =
-    sym (count_beyond ms i (⊎_elim (λ (l : i < ms.size). absurd (let q = e ∙ cond-true _ _ _ (lt-ltb i ms.size l) in let z : ◌≡◌ {A = ℕ} 0 1 = cc in omega arith)) (λ (l : ms.size ≤ i). l) (cases_lt i ms.size)))
+count_told ms i (Ok n) e v = v ∙ sym (count_here ms i (slot_there _ _ _ e))
+count_told ms i (Err f) e v = sym (count_beyond ms i (slot_not_there _ _ _ _ e))
 
 -- ---- numbers in a row
 range_more : (a n : ℕ) → range_with_len a (suc n) ≡ range_with_len a n ++ (a + n) ∷ []

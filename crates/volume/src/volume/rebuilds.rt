@@ -1,11 +1,12 @@
 // Replacement of a slot's member, and the rebuild of what it should hold, stripe by stripe, while the volume is in use.
 ghost use Rattle.std.specs.Prelude.{◌≡◌, ◌<◌, ◌≤◌, true, is_ok, if◌then◌else◌};
+ghost use Rattle.bank.specs.Slots.{bank_refusal};
 ghost use Rattle.contents.specs.declared.SlotEvent.TheVariants.{Opened, Closed};
-ghost use Rattle.contents.specs.Refusals.{outcome};
+ghost use Rattle.contents.specs.Refusals.{outcome, answering};
 ghost use Rattle.contents.specs.Records.{frontiers};
 ghost use Rattle.contents.specs.Shapes.{Roomy};
 ghost use Rattle.contents.specs.Theorems.{CountsKept, TellsLoss};
-ghost use Rattle.contents.specs.Rebuilds.{event_records, replace_outcome, open_outcome, step_outcome, step_fault, close_outcome, fault_of, open_here, ReplaceChanges, StepChanges, FitsOver};
+ghost use Rattle.contents.specs.Rebuilds.{event_records, replace_outcome, open_outcome, step_outcome, step_fault, close_outcome, rebuilt, fault_of, open_here, ReplaceChanges, StepChanges, FitsOver};
 ghost use Rattle.volume.specs.Columns.{ColumnRebuilt};
 ghost use Rattle.volume.specs.Grids.{grid_shape, grid_frontiers};
 ghost use Rattle.volume.specs.Slots.{members_in};
@@ -13,7 +14,7 @@ ghost use Rattle.volume.specs.Volumes.{shape, members, records, PartsKept, order
 
 use crate::grid::Grid;
 use crate::volume::Volume;
-use bank::Bank;
+use bank::{Bank, BankFault};
 use code::{BLOCK, Code};
 use contents::{Refusal, SlotEvent};
 use layout::Layout;
@@ -32,6 +33,15 @@ impl Order {
     }
 }
 
+// A bank's answer as the answer of its volume: the fault goes up whole.
+fn lifted(answer: Result<(), BankFault>) -> Result<(), Refusal>
+    ensures answered { outcome result ≡ answering tt (rebuilt (bank_refusal answer) 0) }
+    ensures fault { fault_of result ≡ bank_refusal answer }
+{
+    answer?;
+    Ok(())
+}
+
 impl<C: Code, L: Layout> Grid<C, L> {
     // Writes what is recovered of stripe `s` to a slot that is behind it, unless three or more columns are missing.
     fn rebuild_column<B: Bank>(&self, bank: &mut B, slot: usize, s: usize) -> Result<(), Refusal>
@@ -46,7 +56,7 @@ impl<C: Code, L: Layout> Grid<C, L> {
         let mut column = [0u8; BLOCK];
         let t = self.layout.column_of(self.size.slots, s, slot);
         self.rebuild(bank, s, t, survey, &mut column);
-        Ok(bank.write(slot, s, &column)?)
+        lifted(bank.write(slot, s, &column))
     }
 }
 

@@ -1,7 +1,6 @@
 use Rattle.std.proofs.Common.{◌≡◌, ◌<◌, ap, ◌∙◌, arith}
-use Rattle.std.proofs.lemmas.Result.{err_from_is_err_and}
 use Rattle.contents.specs.Shapes.{missing_at, recovered_at}
-use Rattle.volume.proofs.Rebuilding.{behind_missing, column_lossy, column_written, lifted_ok, lifted_err}
+use Rattle.volume.proofs.Rebuilding.{behind_missing, column_lossy, column_written}
 use Rattle.volume.specs.Grids.{grid_shape, grid_frontiers}
 use Rattle.volume.specs.Slots.{members_in, slots_in}
 use Rattle.volume.proofs.grid.Grid.rebuild_column.Goals as goal
@@ -25,21 +24,6 @@ rebuild-requires g c =
           (ap place c.column_of-t.ensures.value ∙ (g.met.L.Layout.lawful x.layout x.size.slots c.args.s).back c.args.slot c.requires.within.0) c.requires.behind;
     }
 
-pub returns-in_err-write : goal.returns-in_err-write
-returns-in_err-write g c =
-    let V = grid_shape g.C.Code g.L.Layout c.args.self.now in
-    let ms = slots_in g.B.Bank c.args.bank.now in
-    let F = grid_frontiers c.args.self.now in
-    let s = c.args.s in
-    let j = c.args.slot in
-    let e : c.survey-survey.result.missing ≡ missing_at V (members_in g.B.Bank c.args.bank.now) F s = c.survey-survey.ensures.value.count in
-    let p = err_from_is_err_and c.from_residual.result c.from_residual.ensures.1 in
-    record {
-      rebuilt = column_written V ms F s j (omega arith) c.requires.within.0 c.requires.within.1 (slots_in g.B.Bank c.rebuild.new.bank) c.rebuild.ensures.same c.rebuild.new.into
-          (c.rebuild.ensures.value ∙ ap (recovered_at V (members_in g.B.Bank c.args.bank.now) F s) c.column_of-t.ensures.value) c.rebuild.array_long
-          (slots_in g.B.Bank c.write.new.self) c.write.ensures.after c.write.result c.write.ensures.answered c.from_residual.result (lifted_err c.write.result _ c.in_err-write.was c.from_residual.result p.0 p.1 p.2);
-    }
-
 pub returns : goal.returns
 returns g c =
     let V = grid_shape g.C.Code g.L.Layout c.args.self.now in
@@ -51,5 +35,5 @@ returns g c =
     record {
       rebuilt = column_written V ms F s j (omega arith) c.requires.within.0 c.requires.within.1 (slots_in g.B.Bank c.rebuild.new.bank) c.rebuild.ensures.same c.rebuild.new.into
           (c.rebuild.ensures.value ∙ ap (recovered_at V (members_in g.B.Bank c.args.bank.now) F s) c.column_of-t.ensures.value) c.rebuild.array_long
-          (slots_in g.B.Bank c.write.new.self) c.write.ensures.after c.write.result c.write.ensures.answered _ (lifted_ok c.write.result _ c.in_ok-write.was);
+          (slots_in g.B.Bank c.write.new.self) c.write.ensures.after c.write.result c.write.ensures.answered c.lifted.result (record { answered = c.lifted.ensures.answered; fault = c.lifted.ensures.fault });
     }
