@@ -2,7 +2,6 @@
 use Rattle.std.proofs.Common.{◌≡◌, ◌≢◌, ℕ, Bool, true, false, cond, List, length, is_ok, IfOk, Ok, Err, Result, sym, refl, ap, ◌∙◌, subst, arith}
 use Rattle.std.proofs.lemmas.Bool.{cond-false, ne_eqb, false≢true}
 use Rattle.code.specs.Blocks.{Bytes}
-use Rattle.code.specs.declared.Code.{Ghosts as Code}
 use Rattle.contents.specs.declared.Refusal.{Refusal}
 use Rattle.contents.specs.Refusals.{Told, answering}
 use Rattle.contents.specs.Shapes.{Shape, Roomy}
@@ -18,7 +17,7 @@ use Rattle.volume.specs.Volumes.{records, ordered}
 use Rattle.runs.specs.Told.{event, GoesOn}
 
 -- ---- a table that stays
-pub records_same : {C L B : Type 0} {K : Code C} (v w : Volume C L B K) → w.grid.table ≡ v.grid.table → records w ≡ records v
+pub records_same : {C L B : Type 0} (v w : Volume C L B) → w.table ≡ v.table → records w ≡ records v
 records_same v w e = ap (λ t. records_of t.rows) e
 
 -- ---- one event more

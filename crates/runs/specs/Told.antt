@@ -2,7 +2,6 @@
 use Rattle.std.specs.Prelude.{◌≡◌, ℕ, Bool, true, false, cond, not, List, [], ◌∷◌, ◌++◌, map, reverse, length, vec_items, nat_lt, slice_index_or, Ok, Err, Result}
 use Rattle.std.specs.List.{remove}
 use Rattle.bank.specs.declared.Bank.{Ghosts as Bank}
-use Rattle.code.specs.declared.Code.{Ghosts as Code}
 use Rattle.contents.specs.Refusals.{told}
 use Rattle.contents.specs.Shapes.{Shape}
 use Rattle.history.specs.Calls as calls
@@ -22,7 +21,7 @@ use Rattle.runs.specs.declared.Declined.{Declined}
 use Rattle.runs.specs.declared.Declined.TheVariants.{Refused, NoOrder}
 
 -- what of a volume changes
-abbrev pub state : {C L B : Type 0} {K : Code C} → Bank B → Volume C L B K → State
+abbrev pub state : {C L B : Type 0} → Bank B → Volume C L B → State
 state B v = record { members = members B v; records = records v }
 
 -- the slot that the order in place k is for

@@ -1,5 +1,5 @@
 -- What the calls on a volume answer and change, check by check.
-use Rattle.std.proofs.Common.{◌≡◌, ℕ, ◌*◌, ◌<◌, ◌≤◌, Bool, true, false, cond, not, ◌&&◌, eqb, ltb, List, length, is_some, is_ok, Some, None, Ok, Err, Option, Result, sym, refl, ap, ◌∙◌, ⊎_elim, mul-zero, arith}
+use Rattle.std.proofs.Common.{◌≡◌, ℕ, ◌*◌, ◌<◌, ◌≤◌, Bool, true, false, cond, not, ◌&&◌, eqb, ltb, List, length, is_some, is_ok, Some, None, Ok, Err, Option, Result, sym, refl, ap, ◌∙◌, subst, ap₂, ⊎_elim, mul-zero, arith}
 use Rattle.std.proofs.lemmas.Bool.{false≢true, cases_eq, and_from, and_left, and_right, cond-true, cond-false, lt-ltb, le-ltb, eq-eqb, not_from_true, not_from_false, not-true, not-false}
 use Rattle.code.specs.Blocks.{block_size}
 use Rattle.code.specs.Codes.{Coding, Lawful}
@@ -15,9 +15,14 @@ use Rattle.contents.specs.Answers.{write_takes, scrub_takes}
 use Rattle.contents.specs.Changes.{WriteChanges, ScrubChanges}
 use Rattle.volume.specs.Columns.{ColumnWritten, StripeScrubbed}
 use Rattle.volume.specs.declared.size.Size.{Size}
+use Rattle.volume.specs.declared.volume.Volume.{Volume}
 use Rattle.volume.specs.declared.grid.Grid.{Grid}
-use Rattle.volume.specs.Sizes.{Fitting, shape_at}
-use Rattle.volume.specs.Grids.{grid_shape}
+use Rattle.volume.specs.declared.slots.SlotTable.{SlotTable}
+use Rattle.volume.specs.Grids.{grid_shape, grid_frontiers}
+use Rattle.volume.specs.Slots.{frontier_of}
+use Rattle.volume.specs.Sizes.{Fitting, size_of, shape_at}
+use Rattle.volume.specs.Volumes.{shape, frontiers}
+use Rattle.volume.proofs.Formatting.{size_fits}
 
 -- ---- the shape
 pub valid_at : (C : Coding) → Lawful block_size C → (slot column : ℕ → ℕ → ℕ → ℕ) → ((n s : ℕ) → Placing n (slot n s) (column n s)) → (z : Size) → Fitting C.limit z → Valid (shape_at C slot column z)
@@ -32,7 +37,24 @@ valid_at C L slot column pl z f = record {
 
 pub grid_valid : {C L : Type 0} (K : Code C) (J : Layout L) → ((c : C) → Lawful block_size (K.coding c)) → ((l : L) (n s : ℕ) → Placing n (J.slot l n s) (J.column l n s))
     → (x : Grid C L K) → Valid (grid_shape K J x)
-grid_valid K J lawful placed x = valid_at (K.coding x.code) (lawful x.code) (J.slot x.layout) (J.column x.layout) (placed x.layout) x.size x.fitting
+grid_valid K J lawful placed x =
+    valid_at (K.coding x.code.now) (lawful x.code.now) (J.slot x.layout.now) (J.column x.layout.now) (placed x.layout.now) x.size x.fitting
+
+pub volume_valid : {C L B : Type 0} (K : Code C) (J : Layout L) → ((c : C) → Lawful block_size (K.coding c)) → ((l : L) (n s : ℕ) → Placing n (J.slot l n s) (J.column l n s))
+    → (v : Volume C L B) → Valid (shape K J v)
+volume_valid K J lawful placed v =
+    valid_at (K.coding v.code) (lawful v.code) (J.slot v.layout) (J.column v.layout) (placed v.layout) (size_of (K.coding v.code).limit v.size)
+    (size_fits (K.coding v.code).limit v.size)
+
+-- what holds of the grid of a volume's parts holds of the volume
+module _ {C L B : Type 0} (K : Code C) (J : Layout L) (x : Grid C L K) (v : Volume C L B) (ec : x.code.now ≡ v.code) (el : x.layout.now ≡ v.layout) (ez : x.size ≡ size_of (K.coding v.code).limit v.size) (et : x.table.now ≡ v.table) where
+  shape_is : grid_shape K J x ≡ shape K J v
+  shape_is =
+      ap (λ (z : Size). shape_at (K.coding x.code.now) (J.slot x.layout.now) (J.column x.layout.now) z) ez
+      ∙ ap₂ (λ (c : C) (l : L). shape_at (K.coding c) (J.slot l) (J.column l) (size_of (K.coding v.code).limit v.size)) ec el
+
+  pub as_volume : (P : Shape → Frontiers → Type 0) → P (grid_shape K J x) (grid_frontiers x) → P (shape K J v) (frontiers v)
+  as_volume P h = subst (λ (F : Frontiers). P (shape K J v) F) (ap (λ (t : SlotTable). frontier_of t.rows) et) (subst (λ (V : Shape). P V (grid_frontiers x)) shape_is h)
 
 -- ---- a column that is read
 pub read_here : (o : Option (List ℕ)) (b : List ℕ) (m : Bool) (e : Told) → o ≡ Some b → ◌≡◌ {A = Result Unit Told} (Ok tt) (cond (not (is_some o) && m) (Err e) (Ok tt))

@@ -6,29 +6,25 @@ use Rattle.layout.specs.declared.Layout.{Ghosts as Layout}
 use Rattle.parity.specs.Ways.{recovered}
 use Rattle.contents.specs.declared.Loss.{Loss}
 use Rattle.contents.specs.Columns.{Frontiers, columns, loss_of}
-use Rattle.contents.specs.Records.{Records}
 use Rattle.contents.specs.Shapes.{Shape}
 use Rattle.volume.specs.declared.grid.Grid.{Grid}
 use Rattle.volume.specs.Sizes.{shape_at}
-use Rattle.volume.specs.Slots.{members_of, frontier_of, records_of}
+use Rattle.volume.specs.Slots.{members_of, frontier_of}
 
 -- the shape, by the records K and J of the code and the layout
 abbrev pub grid_shape : {C L : Type 0} → (K : Code C) → Layout L → Grid C L K → Shape
-grid_shape K J x = shape_at (K.coding x.code) (J.slot x.layout) (J.column x.layout) x.size
+grid_shape K J x = shape_at (K.coding x.code.now) (J.slot x.layout.now) (J.column x.layout.now) x.size
 
 -- how many data columns a stripe has
 abbrev pub width : {C L : Type 0} {K : Code C} → Grid C L K → ℕ
 width x = x.size.slots - 2
 
 abbrev pub grid_frontiers : {C L : Type 0} {K : Code C} → Grid C L K → Frontiers
-grid_frontiers x = frontier_of x.table.rows
-
-abbrev pub grid_records : {C L : Type 0} {K : Code C} → Grid C L K → Records
-grid_records x = records_of x.table.rows
+grid_frontiers x = frontier_of x.table.now.rows
 
 -- the columns of stripe s
 abbrev pub columns_on : {C L : Type 0} {K : Code C} → Layout L → Grid C L K → Slots → ℕ → ℕ → Option (List ℕ)
-columns_on J x ms s = columns (members_of ms) (grid_frontiers x) (J.slot x.layout x.size.slots) s
+columns_on J x ms s = columns (members_of ms) (grid_frontiers x) (J.slot x.layout.now x.size.slots) s
 
 -- what is lost of the stripe
 abbrev pub loss_on : {C L : Type 0} {K : Code C} → Grid C L K → Slots → ℕ → Loss
@@ -36,4 +32,4 @@ loss_on x ms s = loss_of (members_of ms) (grid_frontiers x) x.size.slots s
 
 -- column t of the stripe: its bytes if it is current, else what is recovered
 abbrev pub recovered_on : {C L : Type 0} → (K : Code C) → Layout L → Grid C L K → Slots → ℕ → ℕ → List ℕ
-recovered_on K J x ms s t = recovered (K.coding x.code) (width x) (columns_on J x ms s) t
+recovered_on K J x ms s t = recovered (K.coding x.code.now) (width x) (columns_on J x ms s) t

@@ -8,6 +8,8 @@ ghost use Rattle.volume.specs.Volumes.{shape, members, frontiers, Kept};
 ghost use Rattle.volume.specs.Turns.{in_turn};
 
 use crate::grid::Grid;
+use crate::size::{Size, size_with};
+use crate::slots::SlotTable;
 use crate::walks::tick_slots;
 use bank::Bank;
 use code::Code;
@@ -21,8 +23,11 @@ pub mod writes;
 
 // A formatted volume. Its bank is reached through its calls alone.
 #[derive(Drop)]
-pub struct Volume<C: Code, L, B> {
-    grid: Grid<C, L>,
+pub struct Volume<C, L, B> {
+    code: C,
+    layout: L,
+    size: Size,
+    table: SlotTable,
     bank: B,
 }
 
@@ -34,34 +39,36 @@ impl<C: Code, L: Layout, B: Bank> Volume<C, L, B> {
         ensures kept { Kept self.old self.new }
         ensures right { Roomy (shape C.Code L.Layout self.old) (members B.Bank self.old) → FitsOn (shape C.Code L.Layout self.old) (members B.Bank self.old) (frontiers self.old) (members B.Bank self.new) × CountsKept (members B.Bank self.old) (members B.Bank self.new) }
     {
-        tick_slots(&mut self.bank, self.grid.size.slots);
+        let size = size_with(&self.code, self.size);
+        tick_slots(&mut self.bank, size.slots);
     }
 
     // How many more slots may be lost before a block is: two, less the slots that are gone or not wholly rebuilt, not under 0.
     pub fn margin(&self) -> usize
         ensures value { result ≡ margin (shape C.Code L.Layout self.now) (members B.Bank self.now) (frontiers self.now) }
     {
-        2usize.saturating_sub(self.grid.weak_slots(&self.bank))
+        let grid = Grid::of(&self.code, &self.layout, self.size, &self.table);
+        2usize.saturating_sub(grid.weak_slots(&self.bank))
     }
 
     // How many slots there are.
     pub fn slots(&self) -> usize
         ensures value { result ≡ (shape C.Code L.Layout self.now).slots }
     {
-        self.grid.size.slots
+        size_with(&self.code, self.size).slots
     }
 
     // How many stripes there are.
     pub fn stripes(&self) -> usize
         ensures value { result ≡ (shape C.Code L.Layout self.now).stripes }
     {
-        self.grid.size.stripes
+        size_with(&self.code, self.size).stripes
     }
 
     // How many blocks there are.
     pub fn blocks(&self) -> usize
         ensures value { result ≡ blocks (shape C.Code L.Layout self.now) }
     {
-        self.grid.blocks()
+        Grid::of(&self.code, &self.layout, self.size, &self.table).blocks()
     }
 }

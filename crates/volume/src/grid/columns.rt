@@ -38,7 +38,7 @@ fn with_status(loss: Loss, how: Status, bit: u32) -> Loss
     }
 }
 
-impl<C: Code, L> Grid<C, L> {
+impl<'a, C: Code, L> Grid<'a, C, L> {
     // How the column of stripe `s` on a slot stands.
     pub fn status<B: Bank>(&self, bank: &B, s: usize, slot: usize) -> Status
         ensures value { result ≡ status (members_in B.Bank bank.now) (grid_frontiers self.now) s slot }
@@ -101,7 +101,7 @@ impl<C: Code, L> Grid<C, L> {
     }
 }
 
-impl<C: Code, L: Layout> Grid<C, L> {
+impl<'a, C: Code, L: Layout> Grid<'a, C, L> {
     // Whether column `t` of stripe `s` is current.
     pub fn has<B: Bank>(&self, bank: &B, s: usize, t: usize) -> bool
         ensures value { result ≡ is_some (columns_on L.Layout self.now (slots_in B.Bank bank.now) s t) }
@@ -143,7 +143,7 @@ impl<C: Code, L: Layout> Grid<C, L> {
 
     // Writes bytes to column `t` of stripe `s`, if the stripe is below the frontier of its slot; what the member refuses is left.
     pub fn store<B: Bank>(&self, bank: &mut B, s: usize, t: usize, bytes: &[u8; BLOCK])
-        ensures stored { Moved (Put (due (members_in B.Bank bank.old) (grid_frontiers self.now) s (L.Layout.slot self.now.layout self.now.size.slots s t)) s bytes.now) (L.Layout.slot self.now.layout self.now.size.slots s t) (members_in B.Bank bank.old) (members_in B.Bank bank.new) }
+        ensures stored { Moved (Put (due (members_in B.Bank bank.old) (grid_frontiers self.now) s (L.Layout.slot self.now.layout.now self.now.size.slots s t)) s bytes.now) (L.Layout.slot self.now.layout.now self.now.size.slots s t) (members_in B.Bank bank.old) (members_in B.Bank bank.new) }
     {
         let slot = self.layout.slot_of(self.size.slots, s, t);
         if self.table.has(slot, s) {

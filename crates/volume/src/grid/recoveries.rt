@@ -15,19 +15,19 @@ use parity::Way;
 use recovery::sums::add_column;
 use recovery::ways::solve;
 
-impl<C: Code, L: Layout> Grid<C, L> {
+impl<'a, C: Code, L: Layout> Grid<'a, C, L> {
     // The two sums over the current columns of stripe `s`, as far as the way needs them, in two buffers of zeros.
     fn gather<B: Bank>(&self, bank: &mut B, s: usize, way: Way, plain: &mut [u8], mixed: &mut [u8])
         requires empty { (plain.old ≡ zeros) × (mixed.old ≡ zeros) }
         ensures same { slots_in B.Bank bank.new ≡ slots_in B.Bank bank.old }
         ensures plain { plain.new ≡ (if takes_plain way then plain_sum (width self.now) (columns_on L.Layout self.now (slots_in B.Bank bank.old) s) (width self.now + 2) else zeros) }
-        ensures mixed { mixed.new ≡ (if takes_mixed way then mixed_sum (C.Code.coding self.now.code) (width self.now) (columns_on L.Layout self.now (slots_in B.Bank bank.old) s) (width self.now + 2) else zeros) }
+        ensures mixed { mixed.new ≡ (if takes_mixed way then mixed_sum (C.Code.coding self.now.code.now) (width self.now) (columns_on L.Layout self.now (slots_in B.Bank bank.old) s) (width self.now + 2) else zeros) }
     {
         let mut scratch = [0u8; BLOCK];
         let k = self.width();
         for t in 0..k + 2 {
             if self.load(bank, s, t, &mut scratch) {
-                let _ = add_column(&self.code, way, k, t, &scratch, plain, mixed);
+                let _ = add_column(self.code, way, k, t, &scratch, plain, mixed);
             }
         }
     }
@@ -50,7 +50,7 @@ impl<C: Code, L: Layout> Grid<C, L> {
         let mut mixed = [0u8; BLOCK];
         *into = mixed;
         self.gather(bank, s, way, into, &mut mixed);
-        let _ = solve(&self.code, way, into, &mut mixed);
+        let _ = solve(self.code, way, into, &mut mixed);
     }
 
     // Column `t` of stripe `s` into a buffer: read if it is current, else recovered from the others.

@@ -12,7 +12,6 @@ ghost use Rattle.volume.specs.Slots.{members_in, slots_in};
 ghost use Rattle.volume.specs.Volumes.{shape, members, frontiers};
 ghost use Rattle.volume.specs.Turns.{in_turn};
 
-use crate::grid::Grid;
 use crate::size::parts_size;
 use crate::slots::SlotTable;
 use crate::volume::Volume;
@@ -52,10 +51,10 @@ impl<C: Code, L: Layout, B: Bank> Blank<C, L, B> {
 
     // A volume of these parts, with zeros in every block that its member takes. Parts that do not fit give one without slots.
     pub fn format(self) -> Volume<C, L, B>
-        ensures code { result.grid.code ≡ self.code }
-        ensures layout { result.grid.layout ≡ self.layout }
+        ensures code { result.code ≡ self.code }
+        ensures layout { result.layout ≡ self.layout }
         ensures shape { shape C.Code L.Layout result ≡ formed (C.Code.coding self.code) (L.Layout.slot self.layout) (L.Layout.column self.layout) (told (slots_in B.Bank self.bank).size) (members_in B.Bank self.bank) }
-        ensures table { result.grid.table.rows ≡ replicate 18 (idle_at (shape C.Code L.Layout result).stripes) }
+        ensures table { result.table.rows ≡ replicate 18 (idle_at (shape C.Code L.Layout result).stripes) }
         ensures exact { B.Bank.state result.bank ≡ in_turn (λ t s. in_turn (λ u i. B.Bank.wrote u i s zeros) (shape C.Code L.Layout result).slots t) (shape C.Code L.Layout result).stripes (B.Bank.state self.bank) }
         ensures changes { FormatChanges (shape C.Code L.Layout result) (members_in B.Bank self.bank) (members B.Bank result) }
         ensures fits { FitsVolume (shape C.Code L.Layout result) (members B.Bank result) (frontiers result) (λ _. zeros) }
@@ -71,12 +70,10 @@ impl<C: Code, L: Layout, B: Bank> Blank<C, L, B> {
         let size = parts_size(&code, &bank).unwrap_or_default();
         zero_stripes(&mut bank, size.slots, size.stripes);
         Volume {
-            grid: Grid {
-                code,
-                layout,
-                size,
-                table: SlotTable::idle(size.stripes),
-            },
+            code,
+            layout,
+            size,
+            table: SlotTable::idle(size.stripes),
             bank,
         }
     }

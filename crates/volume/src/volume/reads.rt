@@ -15,7 +15,7 @@ use code::{BLOCK, Code};
 use contents::Refusal;
 use layout::Layout;
 
-impl<C: Code, L: Layout> Grid<C, L> {
+impl<'a, C: Code, L: Layout> Grid<'a, C, L> {
     // Column `t` of stripe `s` into a buffer, from its member alone if it is current.
     fn read_column<B: Bank>(
         &self,
@@ -50,11 +50,11 @@ impl<C: Code, L: Layout, B: Bank> Volume<C, L, B> {
         ensures loss { Losing (shape C.Code L.Layout self.old) (members B.Bank self.old) (frontiers self.old) }
     {
         let buffer = buffer.as_mut_array::<BLOCK>().ok_or(Refusal::Length)?;
-        if block >= self.grid.blocks() {
+        let grid = Grid::of(&self.code, &self.layout, self.size, &self.table);
+        if block >= grid.blocks() {
             return Err(Refusal::NoSuch);
         }
-        let k = self.grid.size.slots - 2;
-        self.grid
-            .read_column(&mut self.bank, block / k, block % k, buffer)
+        let k = grid.size.slots - 2;
+        grid.read_column(&mut self.bank, block / k, block % k, buffer)
     }
 }

@@ -2,17 +2,18 @@
 ghost use Rattle.std.specs.Prelude.{◌≡◌, ◌<◌, ◌≤◌, true, is_ok, if◌then◌else◌};
 ghost use Rattle.bank.specs.Slots.{bank_refusal};
 ghost use Rattle.contents.specs.declared.SlotEvent.TheVariants.{Opened, Closed};
-ghost use Rattle.contents.specs.Refusals.{outcome, answering};
+ghost use Rattle.contents.specs.Refusals.{told, outcome, answering};
 ghost use Rattle.contents.specs.Records.{frontiers};
 ghost use Rattle.contents.specs.Shapes.{Roomy};
 ghost use Rattle.contents.specs.Theorems.{CountsKept, TellsLoss};
-ghost use Rattle.contents.specs.Rebuilds.{event_records, replace_outcome, open_outcome, step_outcome, step_fault, close_outcome, rebuilt, fault_of, open_here, ReplaceChanges, StepChanges, FitsOver};
+ghost use Rattle.contents.specs.Rebuilds.{event_outcome, event_records, replace_outcome, open_outcome, step_outcome, step_fault, close_outcome, rebuilt, fault_of, open_here, ReplaceChanges, StepChanges, FitsOver};
 ghost use Rattle.volume.specs.Columns.{ColumnRebuilt};
 ghost use Rattle.volume.specs.Grids.{grid_shape, grid_frontiers};
 ghost use Rattle.volume.specs.Slots.{members_in};
 ghost use Rattle.volume.specs.Volumes.{shape, members, records, PartsKept, ordered};
 
 use crate::grid::Grid;
+use crate::size::size_with;
 use crate::volume::Volume;
 use bank::{Bank, BankFault};
 use code::{BLOCK, Code};
@@ -42,7 +43,7 @@ fn lifted(answer: Result<(), BankFault>) -> Result<(), Refusal>
     Ok(())
 }
 
-impl<C: Code, L: Layout> Grid<C, L> {
+impl<'a, C: Code, L: Layout> Grid<'a, C, L> {
     // Writes what is recovered of stripe `s` to a slot that is behind it, unless three or more columns are missing.
     fn rebuild_column<B: Bank>(&self, bank: &mut B, slot: usize, s: usize) -> Result<(), Refusal>
         requires within { (slot < self.now.size.slots) × (s < self.now.size.stripes) }
@@ -61,6 +62,20 @@ impl<C: Code, L: Layout> Grid<C, L> {
 }
 
 impl<C: Code, L: Layout, B: Bank> Volume<C, L, B> {
+    // The record of a slot meets an event, and every other record is kept. Where there is no such slot, this refusal is answered.
+    fn meet(&mut self, slot: usize, event: SlotEvent, absent: Refusal) -> Result<usize, Refusal>
+        ensures answered { outcome result ≡ event_outcome (shape C.Code L.Layout self.old) (records self.old) slot event (told absent) }
+        ensures records { records self.new ≡ event_records (shape C.Code L.Layout self.old) (records self.old) slot event }
+        ensures bank { self.new.bank ≡ self.old.bank }
+        ensures kept { PartsKept self.old self.new }
+    {
+        let size = size_with(&self.code, self.size);
+        if slot >= size.slots {
+            return Err(absent);
+        }
+        self.table.change(slot, event, size.stripes)
+    }
+
     // Puts a fresh member in the place of a slot's: nothing of the volume is in it until it is rebuilt.
     pub fn replace(&mut self, slot: usize) -> Result<(), Refusal>
         ensures answered { outcome result ≡ replace_outcome (shape C.Code L.Layout self.old) (records self.old) slot }
@@ -69,7 +84,7 @@ impl<C: Code, L: Layout, B: Bank> Volume<C, L, B> {
         ensures kept { PartsKept self.old self.new }
         ensures right { FitsOver (shape C.Code L.Layout self.old) (members B.Bank self.old) (records self.old) (members B.Bank self.new) (records self.new) × CountsKept (members B.Bank self.old) (members B.Bank self.new) }
     {
-        self.grid.meet(slot, SlotEvent::Replaced, Refusal::NoSuch)?;
+        self.meet(slot, SlotEvent::Replaced, Refusal::NoSuch)?;
         let _ = self.bank.fresh(slot);
         Ok(())
     }
@@ -82,7 +97,7 @@ impl<C: Code, L: Layout, B: Bank> Volume<C, L, B> {
         ensures kept { PartsKept self.old self.new }
         ensures right { FitsOver (shape C.Code L.Layout self.old) (members B.Bank self.old) (records self.old) (members B.Bank self.old) (records self.new) }
     {
-        self.grid.meet(slot, SlotEvent::Opened, Refusal::NoSuch)?;
+        self.meet(slot, SlotEvent::Opened, Refusal::NoSuch)?;
         Ok(Order { slot })
     }
 
@@ -95,18 +110,16 @@ impl<C: Code, L: Layout, B: Bank> Volume<C, L, B> {
         ensures right { Roomy (shape C.Code L.Layout self.old) (members B.Bank self.old) → FitsOver (shape C.Code L.Layout self.old) (members B.Bank self.old) (records self.old) (members B.Bank self.new) (records self.new) × CountsKept (members B.Bank self.old) (members B.Bank self.new) }
         ensures loss { open_here (shape C.Code L.Layout self.old) (records self.old) order.now.slot ≡ true → ((records self.old) order.now.slot).frontier < (shape C.Code L.Layout self.old).stripes → TellsLoss (shape C.Code L.Layout self.old) (members B.Bank self.old) (frontiers (records self.old)) ((records self.old) order.now.slot).frontier (step_outcome (shape C.Code L.Layout self.old) (members B.Bank self.old) (records self.old) order.now.slot) }
     {
-        let stripes = self.grid.size.stripes;
-        let Some(stripe) = self.grid.open_frontier(order.slot) else {
+        let grid = Grid::of(&self.code, &self.layout, self.size, &self.table);
+        let stripes = grid.size.stripes;
+        let Some(stripe) = grid.open_frontier(order.slot) else {
             return Err(Refusal::NotOpen);
         };
         if stripe >= stripes {
             return Err(Refusal::Whole);
         }
-        self.grid
-            .rebuild_column(&mut self.bank, order.slot, stripe)?;
-        self.grid
-            .table
-            .change(order.slot, SlotEvent::Stepped, stripes)
+        grid.rebuild_column(&mut self.bank, order.slot, stripe)?;
+        self.table.change(order.slot, SlotEvent::Stepped, stripes)
     }
 
     // Ends the rebuild of the order's slot, and answers how far it came. The order is used up, whatever is answered.
@@ -118,6 +131,6 @@ impl<C: Code, L: Layout, B: Bank> Volume<C, L, B> {
         ensures right { FitsOver (shape C.Code L.Layout self.old) (members B.Bank self.old) (records self.old) (members B.Bank self.old) (records self.new) }
     {
         let Order { slot } = order;
-        self.grid.meet(slot, SlotEvent::Closed, Refusal::NotOpen)
+        self.meet(slot, SlotEvent::Closed, Refusal::NotOpen)
     }
 }

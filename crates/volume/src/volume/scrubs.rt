@@ -52,13 +52,13 @@ fn with_mend(tally: Tally, taken: bool) -> Tally
     }
 }
 
-impl<C: Code, L: Layout> Grid<C, L> {
+impl<'a, C: Code, L: Layout> Grid<'a, C, L> {
     // Writes the unreadable columns of stripe `s` on the first `i` slots anew, in slot order. Each is recovered before any is written,
     // so it calls itself: a loop would have to keep all of them.
     fn scrub_slots<B: Bank>(&self, bank: &mut B, s: usize, i: usize, survey: Survey) -> Tally
         requires within { i ≤ self.now.size.slots }
         requires surveyed { Surveyed (columns_on L.Layout self.now (slots_in B.Bank bank.old) s) (width self.now) survey }
-        ensures steps { Steps i (λ j. Moved (Put (is_unreadable (status (members_in B.Bank bank.old) (grid_frontiers self.now) s j)) s (recovered_on C.Code L.Layout self.now (slots_in B.Bank bank.old) s (L.Layout.column self.now.layout self.now.size.slots s j))) j) (members_in B.Bank bank.old) (members_in B.Bank bank.new) }
+        ensures steps { Steps i (λ j. Moved (Put (is_unreadable (status (members_in B.Bank bank.old) (grid_frontiers self.now) s j)) s (recovered_on C.Code L.Layout self.now (slots_in B.Bank bank.old) s (L.Layout.column self.now.layout.now self.now.size.slots s j))) j) (members_in B.Bank bank.old) (members_in B.Bank bank.new) }
         ensures tally { result ≡ tally_of (members_in B.Bank bank.old) (grid_frontiers self.now) s i }
     {
         if i == 0 {
@@ -108,9 +108,10 @@ impl<C: Code, L: Layout, B: Bank> Volume<C, L, B> {
         ensures right { Roomy (shape C.Code L.Layout self.old) (members B.Bank self.old) → Scrubbing (shape C.Code L.Layout self.old) (members B.Bank self.old) (frontiers self.old) stripe (members B.Bank self.new) }
         ensures loss { Losing (shape C.Code L.Layout self.old) (members B.Bank self.old) (frontiers self.old) }
     {
-        if stripe >= self.grid.size.stripes {
+        let grid = Grid::of(&self.code, &self.layout, self.size, &self.table);
+        if stripe >= grid.size.stripes {
             return Err(Refusal::NoSuch);
         }
-        self.grid.scrub_stripe(&mut self.bank, stripe)
+        grid.scrub_stripe(&mut self.bank, stripe)
     }
 }

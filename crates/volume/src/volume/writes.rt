@@ -22,7 +22,7 @@ use contents::Refusal;
 use layout::Layout;
 use recovery::parities::change;
 
-impl<C: Code, L: Layout> Grid<C, L> {
+impl<'a, C: Code, L: Layout> Grid<'a, C, L> {
     // P and Q of stripe `s` as data column `c` is given these bytes, into two buffers.
     fn parities<B: Bank>(
         &self,
@@ -38,7 +38,7 @@ impl<C: Code, L: Layout> Grid<C, L> {
         requires surveyed { Surveyed (columns_on L.Layout self.now (slots_in B.Bank bank.old) s) (width self.now) survey }
         ensures same { slots_in B.Bank bank.new ≡ slots_in B.Bank bank.old }
         ensures p { p.new ≡ recovered_on C.Code L.Layout self.now (slots_in B.Bank bank.old) s (width self.now) ⊕ (recovered_on C.Code L.Layout self.now (slots_in B.Bank bank.old) s c ⊕ bytes.now) }
-        ensures q { q.new ≡ recovered_on C.Code L.Layout self.now (slots_in B.Bank bank.old) s (width self.now + 1) ⊕ (C.Code.coding self.now.code).mix c (recovered_on C.Code L.Layout self.now (slots_in B.Bank bank.old) s c ⊕ bytes.now) }
+        ensures q { q.new ≡ recovered_on C.Code L.Layout self.now (slots_in B.Bank bank.old) s (width self.now + 1) ⊕ (C.Code.coding self.now.code.now).mix c (recovered_on C.Code L.Layout self.now (slots_in B.Bank bank.old) s c ⊕ bytes.now) }
     {
         let mut difference = [0u8; BLOCK];
         let k = self.width();
@@ -46,7 +46,7 @@ impl<C: Code, L: Layout> Grid<C, L> {
         self.fetch(bank, s, k, survey, p);
         self.fetch(bank, s, k + 1, survey, q);
         let _ = xor_into(bytes, &mut difference);
-        let _ = change(&self.code, c, &difference, p, q);
+        let _ = change(self.code, c, &difference, p, q);
     }
 
     // How many columns of stripe `s` are missing after a write to it.
@@ -70,7 +70,7 @@ impl<C: Code, L: Layout> Grid<C, L> {
         p: &[u8; BLOCK],
         q: &[u8; BLOCK],
     )
-        ensures stored { Stores (L.Layout.slot self.now.layout self.now.size.slots s) (grid_frontiers self.now) s (width self.now) c bytes.now p.now q.now (members_in B.Bank bank.old) (members_in B.Bank bank.new) }
+        ensures stored { Stores (L.Layout.slot self.now.layout.now self.now.size.slots s) (grid_frontiers self.now) s (width self.now) c bytes.now p.now q.now (members_in B.Bank bank.old) (members_in B.Bank bank.new) }
     {
         let k = self.width();
         self.store(bank, s, c, bytes);
@@ -111,11 +111,11 @@ impl<C: Code, L: Layout, B: Bank> Volume<C, L, B> {
         ensures loss { Losing (shape C.Code L.Layout self.old) (members B.Bank self.old) (frontiers self.old) }
     {
         let bytes = bytes.as_array::<BLOCK>().ok_or(Refusal::Length)?;
-        if block >= self.grid.blocks() {
+        let grid = Grid::of(&self.code, &self.layout, self.size, &self.table);
+        if block >= grid.blocks() {
             return Err(Refusal::NoSuch);
         }
-        let k = self.grid.size.slots - 2;
-        self.grid
-            .write_column(&mut self.bank, block / k, block % k, bytes)
+        let k = grid.size.slots - 2;
+        grid.write_column(&mut self.bank, block / k, block % k, bytes)
     }
 }

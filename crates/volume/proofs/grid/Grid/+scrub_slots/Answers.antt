@@ -35,7 +35,7 @@ returns-then-ne g t c =
     let e : c.args.i ≡ j + 1 = omega (arith, c.if-i-eq0.false) in
     let u : is_unreadable (status M F s j) ≡ false = unreadable_is c.status-how.result _ true c.if-ne.ensures c.status-how.ensures.value in
     record {
-      steps = scrub_skip M F s (λ (x : ℕ). recovered (g.C.Code.coding c.args.self.now.code) (width c.args.self.now) (columns_on g.L.Layout c.args.self.now ms s) (g.L.Layout.column c.args.self.now.layout c.args.self.now.size.slots s x)) c.args.i j N e c.scrub_slots.ensures.steps u;
+      steps = scrub_skip M F s (λ (x : ℕ). recovered (g.C.Code.coding c.args.self.now.code.now) (width c.args.self.now) (columns_on g.L.Layout c.args.self.now ms s) (g.L.Layout.column c.args.self.now.layout.now c.args.self.now.size.slots s x)) c.args.i j N e c.scrub_slots.ensures.steps u;
       tally = tally_skip M F s c.args.i j c.status-how.result c.scrub_slots.result c.with_standing.result e c.status-how.ensures.value u c.scrub_slots.ensures.tally c.with_standing.ensures.value;
     }
 
@@ -50,7 +50,7 @@ rebuild-requires g t c =
     let u : is_unreadable (status M F s j) ≡ true = unreadable_is c.status-how.result _ false c.if-ne.ensures c.status-how.ensures.value in
     record {
       surveyed = c.requires.surveyed;
-      missing = unreadable_missing M F s j _ (ap (g.L.Layout.slot c.args.self.now.layout n s) c.column_of-t.ensures.value ∙ (g.met.L.Layout.lawful c.args.self.now.layout n s).back j l) u;
+      missing = unreadable_missing M F s j _ (ap (g.L.Layout.slot c.args.self.now.layout.now n s) c.column_of-t.ensures.value ∙ (g.met.L.Layout.lawful c.args.self.now.layout.now n s).back j l) u;
     }
 
 pub with_mend-requires : goal.with_mend-requires
@@ -63,7 +63,7 @@ with_mend-requires g t c =
 
 pub returns : goal.returns
 returns g t c =
-    let C = g.C.Code.coding c.args.self.now.code in
+    let C = g.C.Code.coding c.args.self.now.code.now in
     let ms = slots_in g.B.Bank c.args.bank.now in
     let M = members_of ms in
     let ns = slots_in g.B.Bank c.scrub_slots-tally.new.bank in
@@ -75,7 +75,7 @@ returns g t c =
     let j = c.args.i - 1 in
     let e : c.args.i ≡ j + 1 = omega (arith, c.if-i-eq0.false) in
     let u : is_unreadable (status M F s j) ≡ true = unreadable_is c.status-how.result _ false c.if-ne.ensures c.status-how.ensures.value in
-    let col = λ (xs : Slots) (x : ℕ). recovered C (n - 2) (columns_on g.L.Layout c.args.self.now xs s) (g.L.Layout.column c.args.self.now.layout n s x) in
+    let col = λ (xs : Slots) (x : ℕ). recovered C (n - 2) (columns_on g.L.Layout c.args.self.now xs s) (g.L.Layout.column c.args.self.now.layout.now n s x) in
     let w = subst (λ (xs : Slots). Steps j (mends (members_of xs) F s (col xs)) (members_of xs) N) c.rebuild.ensures.same c.scrub_slots-tally.ensures.steps in
     let t0 = subst (λ (xs : Slots). c.scrub_slots-tally.result ≡ tally_of (members_of xs) F s j) c.rebuild.ensures.same c.scrub_slots-tally.ensures.tally in
     let v : c.rebuild.new.into ≡ col ms j = c.rebuild.ensures.value ∙ ap (λ (x : ℕ). recovered C (n - 2) (columns_on g.L.Layout c.args.self.now ms s) x) c.column_of-t.ensures.value in

@@ -23,7 +23,7 @@ rebuild-requires g c =
 
 pub returns : goal.returns
 returns g c =
-    let C = g.C.Code.coding c.args.self.now.code in
+    let C = g.C.Code.coding c.args.self.now.code.now in
     let cols = λ (ms : Slots). columns_on g.L.Layout c.args.self.now ms c.args.s in
     record {
       same = c.rebuild.ensures.same ∙ c.load.ensures.same;

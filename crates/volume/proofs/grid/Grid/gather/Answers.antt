@@ -17,7 +17,7 @@ loop-t-init g c = (refl, needed_none _ _ _ (sum_none _) c.requires.empty.0, need
 
 pub loop-t-preserved : goal.loop-t-preserved
 loop-t-preserved g c =
-    let C = g.C.Code.coding c.args.self.now.code in
+    let C = g.C.Code.coding c.args.self.now.code.now in
     let k = width c.args.self.now in
     let t = c.loop-t.t in
     let way = c.args.way in
@@ -55,5 +55,5 @@ returns g c =
     record {
       same = c.loop-t.invariant.0;
       plain = subst (λ (x : ℕ). c.loop-t.plain ≡ cond (takes_plain c.args.way) (plain_sum k cols x) zeros) e c.loop-t.invariant.1;
-      mixed = subst (λ (x : ℕ). c.loop-t.mixed ≡ cond (takes_mixed c.args.way) (mixed_sum (g.C.Code.coding c.args.self.now.code) k cols x) zeros) e c.loop-t.invariant.2;
+      mixed = subst (λ (x : ℕ). c.loop-t.mixed ≡ cond (takes_mixed c.args.way) (mixed_sum (g.C.Code.coding c.args.self.now.code.now) k cols x) zeros) e c.loop-t.invariant.2;
     }

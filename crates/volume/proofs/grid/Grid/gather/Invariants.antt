@@ -10,4 +10,4 @@ abbrev pub invariant-loop-t : goal.invariant-loop-t
 invariant-loop-t g l =
     (slots_in g.B.Bank l.bank ≡ slots_in g.B.Bank l.initial.bank)
     × (l.plain ≡ cond (takes_plain l.way) (plain_sum (width l.self) (columns_on g.L.Layout l.self (slots_in g.B.Bank l.initial.bank) l.s) l.t) zeros)
-    × (l.mixed ≡ cond (takes_mixed l.way) (mixed_sum (g.C.Code.coding l.self.code) (width l.self) (columns_on g.L.Layout l.self (slots_in g.B.Bank l.initial.bank) l.s) l.t) zeros)
+    × (l.mixed ≡ cond (takes_mixed l.way) (mixed_sum (g.C.Code.coding l.self.code.now) (width l.self) (columns_on g.L.Layout l.self (slots_in g.B.Bank l.initial.bank) l.s) l.t) zeros)

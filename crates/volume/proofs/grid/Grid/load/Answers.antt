@@ -10,7 +10,7 @@ pub returns-then-not-has : goal.returns-then-not-has
 returns-then-not-has g c =
     let ms = slots_in g.B.Bank c.args.bank.now in
     let F = grid_frontiers c.args.self.now in
-    let h : held (members_of ms) F c.args.s (g.L.Layout.slot c.args.self.now.layout c.args.self.now.size.slots c.args.s c.args.t) ≡ None =
+    let h : held (members_of ms) F c.args.s (g.L.Layout.slot c.args.self.now.layout.now c.args.self.now.size.slots c.args.s c.args.t) ≡ None =
     ap (λ (i : ℕ). held (members_of ms) F c.args.s i) (sym c.slot_of-slot.ensures.value) ∙ behind_held ms F c.args.s c.slot_of-slot.result (sym c.if-not-has.ensures.value) in
     record { same = refl; current = sym (ap is_some h); after = sym (ap (λ (o : Option (List ℕ)). or_else o c.args.into.now) h) }
 

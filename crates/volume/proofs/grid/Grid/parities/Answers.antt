@@ -23,7 +23,7 @@ fetch-requires-3 g c =
 
 pub returns : goal.returns
 returns g c =
-    let C = g.C.Code.coding c.args.self.now.code in
+    let C = g.C.Code.coding c.args.self.now.code.now in
     let k = width c.args.self.now in
     let cols = λ (ms : Slots). columns_on g.L.Layout c.args.self.now ms c.args.s in
     let ms = slots_in g.B.Bank c.args.bank.now in

@@ -11,7 +11,7 @@ gather-requires g c = record { empty = (refl, refl) }
 
 pub returns : goal.returns
 returns g c =
-    let C = g.C.Code.coding c.args.self.now.code in
+    let C = g.C.Code.coding c.args.self.now.code.now in
     let k = width c.args.self.now in
     let cols = columns_on g.L.Layout c.args.self.now (slots_in g.B.Bank c.args.bank.now) c.args.s in
     record {

@@ -17,11 +17,11 @@ returns-then-survey-gt2 g c =
 pub rebuild-requires : goal.rebuild-requires
 rebuild-requires g c =
     let x = c.args.self.now in
-    let place = g.L.Layout.slot x.layout x.size.slots c.args.s in
+    let place = g.L.Layout.slot x.layout.now x.size.slots c.args.s in
     record {
       surveyed = c.survey-survey.ensures.value;
       missing = behind_missing (members_in g.B.Bank c.args.bank.now) (grid_frontiers x) c.args.s c.args.slot _
-          (ap place c.column_of-t.ensures.value ∙ (g.met.L.Layout.lawful x.layout x.size.slots c.args.s).back c.args.slot c.requires.within.0) c.requires.behind;
+          (ap place c.column_of-t.ensures.value ∙ (g.met.L.Layout.lawful x.layout.now x.size.slots c.args.s).back c.args.slot c.requires.within.0) c.requires.behind;
     }
 
 pub returns : goal.returns

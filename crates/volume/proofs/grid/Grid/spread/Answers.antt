@@ -6,7 +6,7 @@ use Rattle.volume.proofs.grid.Grid.spread.Goals as goal
 
 pub returns : goal.returns
 returns g c =
-    let place = g.L.Layout.slot c.args.self.now.layout c.args.self.now.size.slots c.args.s in
+    let place = g.L.Layout.slot c.args.self.now.layout.now c.args.self.now.size.slots c.args.s in
     let F = grid_frontiers c.args.self.now in
     let A = members_in g.B.Bank c.store-2.new.bank in
     let N = members_in g.B.Bank c.store-3.new.bank in

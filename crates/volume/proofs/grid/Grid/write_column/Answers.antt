@@ -37,7 +37,7 @@ pub returns : goal.returns
 returns g c =
     let ms = slots_in g.B.Bank c.args.bank.now in
     let F = grid_frontiers c.args.self.now in
-    let slot = g.L.Layout.slot c.args.self.now.layout in
+    let slot = g.L.Layout.slot c.args.self.now.layout.now in
     let n = c.args.self.now.size.slots in
     let s = c.args.s in
     let V = grid_shape g.C.Code g.L.Layout c.args.self.now in
