@@ -9,15 +9,23 @@ trap 'rm -rf "$copy"' EXIT
 cp crates.txt "$copy" && tar -c --exclude=out crates | tar -x -C "$copy" && mkdir -p "$copy/crates/program/src" || exit 2
 echo 'program: code galois layout member bank contents volume' >> "$copy/crates.txt"
 
-# The program that is compiled: it formats a volume, reads it and rebuilds a stripe of a slot.
+# The program that is compiled: it formats a volume, reads it, rebuilds a stripe of a slot, and hands the volume to a type that asks nothing of
+# its code.
 cat > "$copy/crates/program/src/main.rt" <<'END'
 #![tactic(auto)]
 
 use bank::empty::NoMembers;
 use galois::Pq;
 use layout::Rotating;
+use volume::volume::Volume;
 use volume::volume::blank::Blank;
 use volume::volume::rebuilds::Order;
+
+#[derive(Drop)]
+struct Named<C, L, B> {
+    number: usize,
+    volume: Volume<C, L, B>,
+}
 
 fn main() {
     let parts = Blank::new(Pq, Rotating, NoMembers);
@@ -30,6 +38,7 @@ fn main() {
     };
     let _ = volume.step(&order);
     let _ = volume.close(order);
+    let _ = Named { number: 1, volume };
 }
 END
 
