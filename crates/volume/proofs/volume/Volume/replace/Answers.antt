@@ -1,4 +1,4 @@
-use Rattle.std.proofs.Common.{ℕ, is_ok, Err, Result, sym, refl, ap, ◌∙◌}
+use Rattle.std.proofs.Common.{ℕ, is_ok, Err, Result, sym, ap, ◌∙◌}
 use Rattle.std.proofs.lemmas.Result.{err_from_is_err_and}
 use Rattle.std.proofs.lemmas.Bool.{true≢false, false≢true, cond-false}
 use Rattle.contents.specs.declared.Refusal.{Refusal}

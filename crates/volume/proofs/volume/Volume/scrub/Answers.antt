@@ -1,3 +1,4 @@
+use Rattle.std.proofs.Common.{◌<◌, ◌≤◌, arith}
 use Rattle.contents.specs.Changes.{ScrubChanges}
 use Rattle.contents.proofs.Keeping.{scrubs}
 use Rattle.contents.proofs.Losing.{losses}
@@ -11,9 +12,10 @@ pub returns-then-stripe-grid-clause-changes : goal.returns-then-stripe-grid-clau
 returns-then-stripe-grid-clause-changes g c =
     let M = members g.B.Bank c.args.self.now in
     let x = c.of-grid.result in
+    let beyond : x.size.stripes ≤ c.args.stripe = omega (arith, c.if-stripe-grid.true) in
     as_volume g.C.Code g.L.Layout x c.args.self.now c.of-grid.ensures.code c.of-grid.ensures.layout c.of-grid.ensures.size c.of-grid.ensures.table
     (λ V F. ScrubChanges V M F c.args.stripe M)
-    (scrub_beyond (grid_shape g.C.Code g.L.Layout x) M (grid_frontiers x) c.args.stripe c.if-stripe-grid.true)
+    (scrub_beyond (grid_shape g.C.Code g.L.Layout x) M (grid_frontiers x) c.args.stripe beyond)
 
 pub returns-then-stripe-grid-clause-right : goal.returns-then-stripe-grid-clause-right
 returns-then-stripe-grid-clause-right g c =
@@ -28,9 +30,10 @@ returns-clause-changes g c =
     let M = members g.B.Bank c.args.self.now in
     let N = members_in g.B.Bank c.scrub_stripe.new.bank in
     let x = c.of-grid.result in
+    let within : c.args.stripe < x.size.stripes = omega (arith, c.if-stripe-grid.false) in
     as_volume g.C.Code g.L.Layout x c.args.self.now c.of-grid.ensures.code c.of-grid.ensures.layout c.of-grid.ensures.size c.of-grid.ensures.table
     (λ V F. ScrubChanges V M F c.args.stripe N)
-    (scrub_within (grid_shape g.C.Code g.L.Layout x) M (grid_frontiers x) c.args.stripe c.if-stripe-grid.false N c.scrub_stripe.result c.scrub_stripe.ensures.scrubbed)
+    (scrub_within (grid_shape g.C.Code g.L.Layout x) M (grid_frontiers x) c.args.stripe within N c.scrub_stripe.result c.scrub_stripe.ensures.scrubbed)
 
 pub returns-clause-right : goal.returns-clause-right
 returns-clause-right g c =

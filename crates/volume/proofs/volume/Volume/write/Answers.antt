@@ -1,4 +1,4 @@
-use Rattle.std.proofs.Common.{◌≡◌, ℕ, ◌<◌, length, refl, subst, rules}
+use Rattle.std.proofs.Common.{◌≡◌, ℕ, ◌<◌, length, refl, subst, rules, arith}
 use Rattle.code.specs.Blocks.{block_size}
 use Rattle.contents.proofs.Writing.{writes}
 use Rattle.contents.proofs.Losing.{losses}
@@ -20,7 +20,8 @@ returns-clause-changes g c =
     let M = members g.B.Bank c.args.self.now in
     let N = members_in g.B.Bank c.write_column.new.bank in
     let x = c.of-grid.result in
-    let within = subst (λ (y : ℕ). c.args.block < y) c.blocks-2.ensures.value c.if-block-blocks.false in
+    let below : c.args.block < c.blocks-2.result = omega (arith, c.if-block-blocks.false) in
+    let within = subst (λ (y : ℕ). c.args.block < y) c.blocks-2.ensures.value below in
     let same : c.in_ok-bytes.bytes.now ≡ c.args.bytes.now = search (rules, c.as_array.ensures.cases, c.in_ok-bytes.ensures.ok_part) in
     let long : length c.args.bytes.now ≡ block_size = search (rules, c.as_array.ensures.cases, c.in_ok-bytes.ensures.ok_part) in
     as_volume g.C.Code g.L.Layout x c.args.self.now c.of-grid.ensures.code c.of-grid.ensures.layout c.of-grid.ensures.size c.of-grid.ensures.table
